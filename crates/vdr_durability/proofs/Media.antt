@@ -24,7 +24,7 @@ use Rattle.vdr_durability.proofs.Ordered.{no_later}
 use Rattle.vdr_durability.specs.Commits.{TakesItems, ClosesRun, IsDoneIn, AreDoneFrom, closing_size}
 use Rattle.vdr_durability.specs.Media.{AreLimitsOf, EndsBefore, IsAppended, IsMediumOf, IsOpened, state_after}
 use Rattle.vdr_durability.proofs.Follow.{follow_last}
-use Rattle.vdr_durability.proofs.ItemSizes.{made_size, closes_size}
+use Rattle.vdr_durability.proofs.ItemSizes.{closes_size}
 use Rattle.vdr_durability.proofs.Parts.{part_has_less, same_last, sum_of_all}
 use Rattle.vdr_durability.proofs.Seconds.{IsNoLater, Kept, all_paced}
 
@@ -73,7 +73,7 @@ seconds_paced sizes start opened acts of was done s =
 is_short : (limits : ℕ → Limit) (batch : ℕ) (s : RunState) (records : List Record) (taken : List Captured) → closing_size ≤ batch → IsDoneIn limits batch s (Commit records taken) → records_size records ≤ batch
 is_short limits batch s records taken roomy done =
     ⊎_elim
-    (λ (t : TakesItems limits batch s records taken). let made = made_size s.start s.popped taken records t.made.made in let short = t.short in omega (arith, made, short))
+    (λ (t : TakesItems limits batch s records taken). t.short)
     (λ (o : BeginsWith s records taken ⊎ ClosesRun limits s records taken). ⊎_elim
     (λ (b : BeginsWith s records taken). let a = ap records_size b.made in omega (arith, a, roomy))
     (λ (c : ClosesRun limits s records taken). let a = ap records_size c.made.made in let b = closes_size s.start s.popped c.made.rest in omega (arith, a, b, roomy))

@@ -7,6 +7,7 @@ use Rattle.vdr_terms.specs.declared.rate.Rate.{Rate}
 use Rattle.vdr_terms.specs.Records.{Record}
 use Rattle.vdr_terms.specs.Needs.{Sizes, cost}
 use Rattle.vdr_terms.specs.Rates.{limit_of}
+use Rattle.vdr_terms.specs.Sizes.{records_size}
 use Rattle.vdr_terms.specs.Channels.{no_channels}
 use Rattle.vdr_core.specs.Runs.{RunStart}
 use Rattle.vdr_core.specs.Taken.{Captured}
@@ -16,7 +17,7 @@ use Rattle.vdr_core.proofs.HistoryRows.{small, start, data_at, gap_at}
 use Rattle.vdr_core.proofs.StateChecks.{one_refused}
 use Rattle.vdr_core.proofs.RunChecks.{popped_at}
 use Rattle.vdr_durability.specs.Layout.{Batches, batch_size_at}
-use Rattle.vdr_durability.specs.Commits.{IsFit, TakesItems, AreDoneFrom, items_size, largest_item}
+use Rattle.vdr_durability.specs.Commits.{IsFit, TakesItems, AreDoneFrom, largest_item}
 use Rattle.vdr_durability.specs.Media.{IsOpened, IsMediumOf, state_after}
 
 -- One group, number 3, with two datagrams and 200 bytes a second.
@@ -93,6 +94,6 @@ lost_the_last h = omega (arith, ap place_of h.newest)
     place_of None = 0
     place_of (Some r) = suc r.place
 
--- Items whose records may be a byte longer than a batch are not taken.
-byte_too_long : (records : List Record) (taken : List Captured) → items_size taken ≡ 8193 → TakesItems first.limits 8192 (state_after first []) records taken → ⊥
+-- Items whose records are a byte longer than a batch are not taken.
+byte_too_long : (records : List Record) (taken : List Captured) → records_size records ≡ 8193 → TakesItems first.limits 8192 (state_after first []) records taken → ⊥
 byte_too_long records taken size t = omega (arith, size, t.short)

@@ -3,6 +3,7 @@ use Rattle.std.specs.Prelude.{ℕ, ◌+◌, ◌≤◌, ◌≡◌, ◌⊎◌, ⊤
 use Rattle.vdr_terms.specs.Records.{Record, total}
 use Rattle.vdr_terms.specs.Datagrams.{largest}
 use Rattle.vdr_terms.specs.Rates.{Limit, is_configured}
+use Rattle.vdr_terms.specs.Sizes.{records_size}
 use Rattle.vdr_core.specs.Taken.{Captured}
 use Rattle.vdr_core.specs.Histories.{Act}
 use Rattle.vdr_core.specs.Histories.Act.{Commit, Save, Release, Look}
@@ -36,11 +37,11 @@ pub record IsFit (limits : ℕ → Limit) (c : Captured) : Type 0 where
   pub configured : is_configured (limits c.group) ≡ true
   pub short : length c.bytes ≤ largest
 
--- The records of items, which fit a batch whatever they are.
+-- The records of items, which fit a batch.
 pub record TakesItems (limits : ℕ → Limit) (batch : ℕ) (s : RunState) (records : List Record) (taken : List Captured) : Type 0 where
   pub made : GoesOnWith s records taken
   pub fit : All (IsFit limits) taken
-  pub short : items_size taken ≤ batch
+  pub short : records_size records ≤ batch
 
 -- The close of a run, where no group that is not configured has missed anything.
 pub record ClosesRun (limits : ℕ → Limit) (s : RunState) (records : List Record) (taken : List Captured) : Type 0 where

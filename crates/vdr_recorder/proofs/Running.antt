@@ -143,7 +143,7 @@ module _ {tells tells_images : Type 0} (opening : Opening) (events : List Event)
       batch_goes_on items records made fits known short = inl (record {
         made = record { is_open = open_now; made = made };
         fit = subst (λ (limits : ℕ → Limit). All (IsFit limits) items) limits_are (fit_all (limits_in r.vault.config.groups) items known short);
-        short = fits;
+        short = batch_is_short r.vault.config.batch items records (state_left opening events).start (state_left opening events).popped fits made;
       })
 
       pub batch_done : (items : List Captured) (after : RecorderState) (new : Disk tells tells_images) (records : List Record)
