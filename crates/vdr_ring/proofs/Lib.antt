@@ -39,3 +39,4 @@ pub mod Passing
 pub mod Spending
 pub mod Counting
 pub mod Midway
+pub mod OnePart

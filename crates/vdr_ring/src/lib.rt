@@ -22,6 +22,7 @@ mod law;
 mod lookup;
 mod meeting;
 mod opening;
+mod parting;
 mod pins;
 mod questions;
 mod reading;

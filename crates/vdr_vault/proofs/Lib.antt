@@ -36,3 +36,6 @@ pub mod Printing
 pub mod Channels
 pub mod Ours
 pub mod Lives
+pub mod Stretching
+pub mod Stretched
+pub mod Stepped

@@ -66,7 +66,7 @@ module _ {tells tells_images : Type 0} where
   in_no_slot ring disk visit none slot at = let no : ⊥ = cc in absurd no
 
   -- A ring that has read stands as before, and so a visit stands among its records.
-  stands_on : (old new : RingState) (before now : Disk tells tells_images) (visit : VisitState) → HasRead old new before now → tells → StandsAmong old before visit → StandsAmong new now visit
+  pub stands_on : (old new : RingState) (before now : Disk tells tells_images) (visit : VisitState) → HasRead old new before now → tells → StandsAmong old before visit → StandsAmong new now visit
   stands_on old new before now visit read told stands =
       subst (λ (s : Slots). (slot : ℕ) → visit.slot ≡ Some slot → IsAt (s slot) visit.position × (records : List Record) × HasAhead (s slot) visit.position records)
       (sym (same_slots old new before now read told)) stands

@@ -6,6 +6,7 @@ pub mod Openings
 pub mod Plays
 pub mod Saves
 pub mod Keeps
+pub mod Stretches
 pub mod Passes
 pub mod Bringing
 pub mod Refusals

@@ -5,6 +5,7 @@
 //!
 //! - The [`Vault`] is opened, commits batches, saves and releases incidents, and gives the records that a query
 //!   selects.
+//! - A play that goes on in turns is known by places, a [`Stretch`], which is read in parts.
 //! - A visit hands these records to a visitor, which makes something of them, such as their text.
 //! - The laws of a life say what media hold that were formatted once and then used, run after run.
 //!
@@ -25,6 +26,7 @@ mod play;
 mod questions;
 mod refused;
 mod saving;
+mod stretch;
 mod vault;
 mod visit;
 
@@ -33,5 +35,6 @@ pub use law::{law_of_meeting, law_of_sound_media, law_of_vaults};
 pub use life_law::{law_of_lives, law_of_ours};
 pub use play::law_of_budgets;
 pub use refused::SaveRefused;
+pub use stretch::{Part, Stretch, law_of_stretches};
 pub use vault::Vault;
 pub use visit::visit_selected;

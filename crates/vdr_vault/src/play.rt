@@ -40,7 +40,7 @@ fn window_of(ring: &Ring, seconds: u64) -> Option<Span>
 }
 
 // The number of the medium that a query of this one reads.
-fn number_of(medium: Medium) -> u8
+pub(crate) fn number_of(medium: Medium) -> u8
     ensures number { result ≡ medium_of (asked_medium medium) }
     ensures member { result < 2 }
 {

@@ -31,7 +31,7 @@ use vdr_outside::Media;
 use vdr_ring::Cursor;
 
 // The records of a medium, whatever their channels and stamps.
-const ALL: Query = Query {
+pub(crate) const ALL: Query = Query {
     medium: Medium::LongTerm,
     channel: None,
     from: i64::MIN,
