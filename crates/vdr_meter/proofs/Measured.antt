@@ -24,7 +24,7 @@ one_length_at true false h s n r kind group tick bytes = rw (kind, group, tick) 
 one_length_at false b h s n r kind group tick bytes = rw (kind, group) refl
 
 -- A Datagram adds its length to those of its group and second, and to no others.
-lengths_after : (h s g t n : ℕ) (records gap : List Record) (r : Record) → HasNoDatagram gap → IsDatagramOf r g t n
+pub lengths_after : (h s g t n : ℕ) (records gap : List Record) (r : Record) → HasNoDatagram gap → IsDatagramOf r g t n
     → lengths_in h s (records ++ (gap ++ r ∷ [])) ≡ lengths_in h s records ++ cond (g == h) (cond (second t == s) (n ∷ []) []) []
 lengths_after h s g t n records gap r none is =
     let one = one_length_at (g == h) (second t == s) h s n r is.kind (ap (λ x. x == h) is.group) (ap (λ x. second x == s) is.tick) is.bytes in

@@ -107,6 +107,21 @@ impl Meter {
         }
     }
 
+    /// Whether an item of a group, of `len` bytes, would be admitted at this tick (in milliseconds), as `admit` says.
+    pub fn admits(&self, group: u8, tick: u64, len: u16) -> bool
+        requires group { group < 16 }
+        requires forward { self.now.second ≤ second tick }
+        ensures exact { (records : List Record) → Measures self.now records
+            → result ≡ is_admitted (limits_in self.now.rates group) records group (second tick) len }
+    {
+        let Some(rate) = self.rates[group as usize] else {
+            return false;
+        };
+        self.used_in(group, tick / SECOND)
+            .with_item(&rate, len)
+            .is_some()
+    }
+
     fn used_in(&self, group: u8, second: u64) -> Used
         requires { group < 16 }
         ensures { result ≡ used_in self.now group second }

@@ -1,10 +1,8 @@
 -- The bits of a group's channels leave room for one more.
 use Rattle.std.proofs.Common.{◌≡◌, ℕ, ◌+◌, ◌*◌, ◌^◌, ◌<◌, ◌≤◌, Bool, true, false, ◌==◌, List, [], ◌∷◌, length, drop, map, length-drop, pow_mono, arith, pow-suc, if◌then◌else◌}
 use Rattle.std.proofs.lemmas.List.{length-map}
-use mir.Val.{bool_byte}
 use Rattle.vdr_terms.specs.Channels.{group_bits}
 use Rattle.vdr_config.specs.Configuration.{Selector}
-use Rattle.vdr_datagram.proofs.BitLemmas.{byte_le}
 
 flag_le : (b : Bool) → (if b then 1 else 0) ≤ 1
 flag_le true = omega arith

@@ -17,7 +17,7 @@ pub no_datagram : (r : Record) → is_datagram r.content ≡ false → HasNoData
 no_datagram r e zero d l = e
 no_datagram r e (suc k) d l = absurd (omega arith)
 
-gap_alone : (start : RunStart) (g place first tick : ℕ) (utc : ℤ) (missed : Counts) (n : ℕ) → HasNoDatagram (gap_unless_none start g place first tick utc missed n)
+pub gap_alone : (start : RunStart) (g place first tick : ℕ) (utc : ℤ) (missed : Counts) (n : ℕ) → HasNoDatagram (gap_unless_none start g place first tick utc missed n)
 gap_alone start g place first tick utc missed zero = λ k d l. absurd (omega arith)
 gap_alone start g place first tick utc missed (suc n) = no_datagram _ refl
 
