@@ -30,7 +30,11 @@ refusal Full = codes "REFUSED 12 full"
 abbrev pub no_file_line : (why : List ℕ) → List ℕ
 no_file_line why = codes "REFUSED 14 " ++ why
 
--- The status line for it.
+-- The line behind the records of a play that tells from which place on they were written over before they were sent, without its LF.
+abbrev pub gone_line : (place : List ℕ) → List ℕ
+gone_line place = codes "GONE " ++ place
+
+-- The status line for a refusal.
 abbrev pub status_line : Told → List ℕ
 status_line Words = codes "status 2 words\n"
 status_line Damaged = codes "status 4 damaged\n"

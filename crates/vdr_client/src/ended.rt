@@ -16,6 +16,8 @@ pub enum Ended {
     Told(Told),
     /// There is no such file. The status line that says why is printed.
     NoFile,
+    /// Records of a play were written over before they were sent. The status line that says from which place on is printed.
+    Gone,
 }
 
 impl Ended {
@@ -28,6 +30,7 @@ impl Ended {
             Ended::NoMemory => 9,
             Ended::Told(told) => told.code(),
             Ended::NoFile => 14,
+            Ended::Gone => 11,
         }
     }
 
@@ -36,7 +39,7 @@ impl Ended {
         match self {
             Ended::NoWords => "status 2 words\n",
             Ended::NoLink => "status 6 link 0\n",
-            Ended::Output | Ended::NoFile => "",
+            Ended::Output | Ended::NoFile | Ended::Gone => "",
             Ended::NoMemory => "status 9 memory\n",
             Ended::Told(told) => told.line(),
         }

@@ -11,4 +11,4 @@ pub use asking::{order, recorder_listens};
 pub use ended::Ended;
 pub use line::line_of;
 pub use reply::print_reply;
-pub use told::{Told, no_file, told_of};
+pub use told::{Told, gone_from, no_file, told_of};

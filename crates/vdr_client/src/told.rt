@@ -1,6 +1,6 @@
 // How a recorder refuses an order, and the status for it.
 ghost use Rattle.std.specs.Prelude.{◌≡◌, ◌≢◌, ◌⊎◌, ℕ, List, IfNone, IfSome, IsNone};
-ghost use Rattle.vdr_client.specs.Orders.{no_file_line, refusal, status_code, status_line};
+ghost use Rattle.vdr_client.specs.Orders.{gone_line, no_file_line, refusal, status_code, status_line};
 ghost use Rattle.vdr_client.specs.declared.told.Told.TheVariants.{Words, Damaged, Media, Memory};
 
 /// What a recorder tells of an order that it did not do.
@@ -71,6 +71,15 @@ pub fn no_file(line: &[u8]) -> Option<&[u8]>
     ensures none { IfNone result ((why : List ℕ) → line.now ≢ no_file_line why) }
 {
     line.strip_prefix(b"REFUSED 14 ")
+}
+
+/// From which place on records of a play were written over before they were sent, in the digits behind `GONE `. None where a line of a reply,
+/// without its LF, begins otherwise.
+pub fn gone_from(line: &[u8]) -> Option<&[u8]>
+    ensures told { IfSome result (λ place. line.now ≡ gone_line place.now) }
+    ensures none { IfNone result ((place : List ℕ) → line.now ≢ gone_line place) }
+{
+    line.strip_prefix(b"GONE ")
 }
 
 impl Told {

@@ -1,34 +1,9 @@
-use Rattle.std.proofs.Common.{◌≡◌, ◌+◌, ℕ, true, false, List, ◌++◌, length, take, drop, codes, Option, None, Some, IfSome, IfNone, Bor, ap, sym, ◌∙◌}
-use Rattle.std.specs.Cmp.Lexicographic.{pointwise}
-use Rattle.std.specs.Option.{MatchOption}
-use Rattle.std.specs.Prelude.{nat_eq}
-use Rattle.std.proofs.lemmas.Bool.{true≢false}
-use Rattle.std.proofs.lemmas.List.{take-append-drop}
-use Rattle.std.proofs.lemmas.Slice.Eq.{bytes_eq-Decides}
-use Rattle.std.proofs.Math.Seq.{take-append_seam}
-use Rattle.vdr_client.specs.Orders.{no_file_line}
+use Rattle.std.proofs.Common.{codes}
+use Rattle.vdr_client.proofs.Stripped.{found, none}
 use Rattle.vdr_client.proofs.told.no_file.Goals as goal
 
-abbrev front : List ℕ
-front = codes "REFUSED 14 "
-
--- What the call tells.
-abbrev Stripped : List ℕ → Option (Bor (List ℕ)) → Type 0
-Stripped line r =
-    MatchOption r (pointwise nat_eq (take (length front) line) front ≡ false) (λ x. (pointwise nat_eq (take (length front) line) front ≡ true) × (x.now ≡ drop (length front) line) × (length x.now + length front ≡ length line))
-
-found : (line : List ℕ) (r : Option (Bor (List ℕ))) → Stripped line r → IfSome r (λ why. line ≡ no_file_line why.now)
-found line None told = tt
-found line (Some x) told =
-    sym (take-append-drop (length front) line) ∙ ap (λ (l : List ℕ). l ++ drop (length front) line) ((bytes_eq-Decides (take (length front) line) front).0 told.0) ∙ ap (λ (l : List ℕ). front ++ l) (sym told.1)
-
-none : (line : List ℕ) (r : Option (Bor (List ℕ))) → Stripped line r → IfNone r ((why : List ℕ) → line ≡ no_file_line why → ⊥)
-none line None told = λ why e.
-    true≢false (sym ((bytes_eq-Decides (take (length front) line) front).1 (ap (λ (l : List ℕ). take (length front) l) e ∙ take-append_seam front why)) ∙ told)
-none line (Some x) told = tt
-
 pub returns-clause-told : goal.returns-clause-told
-returns-clause-told c = found c.args.line.now c.strip_prefix.result c.strip_prefix.ensures.cases
+returns-clause-told c = found (codes "REFUSED 14 ") c.args.line.now c.strip_prefix.result c.strip_prefix.ensures.cases
 
 pub returns-clause-none : goal.returns-clause-none
-returns-clause-none c = none c.args.line.now c.strip_prefix.result c.strip_prefix.ensures.cases
+returns-clause-none c = none (codes "REFUSED 14 ") c.args.line.now c.strip_prefix.result c.strip_prefix.ensures.cases
