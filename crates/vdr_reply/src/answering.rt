@@ -11,7 +11,7 @@ ghost use Rattle.vdr_vault.specs.Calls.{SameElsewhere};
 ghost use Rattle.vdr_vault.specs.Vaults.{AreRings};
 ghost use Rattle.vdr_control.specs.Lines.{AsksFor};
 ghost use Rattle.vdr_control.specs.Orders.{plain};
-ghost use Rattle.vdr_control.specs.Orders.PlainOrder.{Release as ReleaseOrder, Save as SaveOrder, Status as StatusOrder};
+ghost use Rattle.vdr_control.specs.Orders.PlainOrder.{Health as HealthOrder, Release as ReleaseOrder, Save as SaveOrder, Status as StatusOrder};
 ghost use Rattle.vdr_recorder.specs.Recordings.{HasRecorded};
 ghost use Rattle.vdr_recorder.specs.Watched.{IsWatched};
 ghost use Rattle.vdr_reply.specs.Answers.{HasAnswered, HasOrderCause, LeavesRest};
@@ -104,7 +104,7 @@ pub fn answer<M: Media, W: Watch<M> + Gauge<M>>(
     requires watched { IsWatched W.hears (W.seen watch.old) recorder.old (M.disk media.old) }
     requires asked { (line : List ℕ) × AsksFor line (plain order) }
     ensures answered { (opening : Opening) (events : List Event) (t0 : ℕ) → M.tells → HasRecorded opening events t0 recorder.old (M.disk media.old)
-        → (recorder.old.vault.failed ≡ false → KnowsRun (state_left opening events) tally.now)
+        → (plain order.entry ≡ HealthOrder → recorder.old.vault.failed ≡ false → KnowsRun (state_left opening events) tally.now)
         → HasAnswered recorder.old.vault.config.channels (Rose (sum (M.faults media.old)) (sum (M.faults media.new))) opening events t0 (plain order.entry) result recorder.old recorder.new (M.disk media.old) (M.disk media.new) W.hears (W.seen watch.old) (W.seen watch.new) }
     ensures rest { LeavesRest recorder.old recorder.new }
     ensures rings { AreRings recorder.new.vault (M.disk media.new).sizes }

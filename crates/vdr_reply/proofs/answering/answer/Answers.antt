@@ -46,7 +46,7 @@ pub returns-in-Health-clause-answered : goal.returns-in-Health-clause-answered
 returns-in-Health-clause-answered g c = λ opening events t0 told h knows.
     subst (λ (order : PlainOrder). HasAnswered c.args.recorder.now.vault.config.channels (Rose (sum (g.M.Media.faults c.args.media.now)) (sum (g.M.Media.faults c.args.media.now))) opening events t0 order
     c.answer_health.result c.args.recorder.now c.args.recorder.now (g.M.Media.disk c.args.media.now) (g.M.Media.disk c.args.media.now) g.W.Watch.hears (g.W.Watch.seen c.args.watch.now) (g.W.Watch.seen c.answer_health.new.watch))
-    (sym (ap plain c.in-Health.is)) (c.answer_health.ensures.answered opening events t0 h (knows (search rules)))
+    (sym (ap plain c.in-Health.is)) (c.answer_health.ensures.answered opening events t0 h (knows (ap plain c.in-Health.is) (search rules)))
 
 pub returns-in-Evidence-clause-answered : goal.returns-in-Evidence-clause-answered
 returns-in-Evidence-clause-answered g c = λ opening events t0 told h knows.
