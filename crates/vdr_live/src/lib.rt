@@ -36,7 +36,7 @@ pub use lanes::are_lanes;
 pub use line::{Line, line_of};
 pub use making::{MakeEnd, MakeOuter, is_make, make};
 pub use ports::{last_heard, udp_lanes};
-pub use program::{Streams, command_line};
+pub use program::{Streams, command_line, no_memory};
 pub use sizes::least_sizes;
 pub use using::medium_use;
 pub use vdr_sockets::{Alarm, LastHeard};

@@ -5,6 +5,7 @@ use crate::explaining::{advise, explain};
 use crate::gauging::HostGauge;
 use crate::help::{HELP, VERSION};
 use crate::helping::tell_command;
+use crate::hints::hint;
 use crate::making::is_make;
 use crate::making_files::{ended, make_files};
 use crate::reading_files::read_file;
@@ -40,6 +41,12 @@ fn tell<O: Write>(output: &mut O, text: &str) -> Status {
         Ok(()) => Status::Done,
         Err(_) => Status::OutputFault,
     }
+}
+
+/// Prints the line of a program that has no memory, as a command does, and gives its exit status. A person is told too.
+pub fn no_memory<O: Write + Drop, E: Eprint>(errors: &E, output: O) -> u8 {
+    hint(errors, Status::NoMemory);
+    ended(output, Status::NoMemory).code()
 }
 
 // Prints what the help says of a command, and tells whether that could be done.
@@ -191,14 +198,14 @@ pub fn command_line<
         return read_beside(host, errors, &filled, folder, command, output).code();
     }
     let Ok(input) = BufReader::with_capacity(host.alloc(), READ_AHEAD, input) else {
-        return Status::NoMemory.code();
+        return no_memory(errors, output);
     };
     if is_make(command) {
         return make_beside(host, errors, &filled, folder, input, output).code();
     }
     let uses = medium_use(command);
     let Ok(media) = media_for(host, errors, &filled, folder, uses, alarm) else {
-        return Status::NoMemory.code();
+        return no_memory(errors, output);
     };
     let mut world = World {
         input: StdIn::new(input),

@@ -161,7 +161,7 @@ module _ {tells tells_images : Type 0} (before : Before) (began : Opening → �
     (old : Disk tells tells_images) (was : List ℕ) (k : IsKept before began rates room sizes faults marks w r old was) (desk : ℕ) (order : PlainOrder) (text : List ℕ) (after : RecorderState) (new : Disk tells tells_images) (now : List ℕ)
     (watched : IsWatched before.hears w' after new) (home : StaysHome r old was after new now) (rest : LeavesRest r after) (stays : r.vault.failed ≡ true → after.vault.failed ≡ true)
     (tally : RunTally) (tallied : IsTallied marks tally)
-    (answered : (opening : Opening) (events : List Event) (t0 : ℕ) → tells → HasRecorded opening events t0 r old → (r.vault.failed ≡ false → KnowsRun (state_left opening events) tally) → HasAnswered r.vault.config.channels (Rose (sum was) (sum now)) opening events t0 order text r after old new before.hears w w') where
+    (answered : (opening : Opening) (events : List Event) (t0 : ℕ) → tells → HasRecorded opening events t0 r old → (order ≡ Health → r.vault.failed ≡ false → KnowsRun (state_left opening events) tally) → HasAnswered r.vault.config.channels (Rose (sum was) (sum now)) opening events t0 order text r after old new before.hears w w') where
   abbrev mark : Mark
   mark = order_mark desk order r.vault after.vault.failed new.clock (sum was) (sum now)
 
@@ -201,7 +201,7 @@ module _ {tells tells_images : Type 0} (before : Before) (began : Opening → �
       })
       (λ told opening t0 b.
       let s = k.told told opening t0 b in
-      let a = answered opening (events_of opening marks) t0 told s.has (knows_run before opening marks t0 r old w tally s k.stage tallied) in
+      let a = answered opening (events_of opening marks) t0 told s.has (λ _. knows_run before opening marks t0 r old w tally s k.stage tallied) in
       let act = act_is opening (taken_in marks) (events_of opening marks) granted rose order in
       still_session before opening marks t0 r old w w' s mark after new
       (subst (λ (act : Act). DoneAndTold before.hears opening (events_of opening marks) t0 act after old new w w') (sym act) a.done)
@@ -214,7 +214,7 @@ module _ {tells tells_images : Type 0} (before : Before) (began : Opening → �
     refl,
     λ told opening t0 b.
         let s = k.told told opening t0 b in
-        let a = answered opening (events_of opening marks) t0 told s.has (knows_run before opening marks t0 r old w tally s k.stage tallied) in
+        let a = answered opening (events_of opening marks) t0 told s.has (λ _. knows_run before opening marks t0 r old w tally s k.stage tallied) in
         let act = act_is opening (taken_in marks) (events_of opening marks) granted rose order in
         let own : event_of opening (taken_in marks) (events_of opening marks) mark ≡ record { act = cond granted (granted_act opening (events_of opening marks) order) Act.Look; moment = mark.moment } =
         λ i. record { act = act i; moment = mark.moment } in

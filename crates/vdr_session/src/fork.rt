@@ -71,13 +71,9 @@ pub(crate) fn capture_and_record<T: Records + Send, P: Port + Send, R: Threads +
 {
     let done = Done::new();
     let flag = &done;
-    let (_, works) = join_mut(
+    // The captures are what runs here: where the host refuses the other's thread, that one runs behind them and does not wait in vain.
+    let (works, _) = join_mut(
         rt,
-        &mut ||
-            requires turns { turns ≤ most_items }
-            requires ready { All (IsReadyAmong queues.now) lanes.now }
-            ensures { (i : ℕ) (d : _) → i < length lanes.entry.now → CapturesHeld P.Port turns (slice_index_or lanes.entry.now i d) (slice_index_or lanes.exit.now i d) }
-        { capture_until_done(rt, lanes, turns, queues, flag) },
         &mut || -> bool
             requires latch { pass.now.latch ≡ latch.now }
             requires leads { (pass.now.leads ≡ true) × (is_begun pass.now.own ≡ true) }
@@ -96,6 +92,11 @@ pub(crate) fn capture_and_record<T: Records + Send, P: Port + Send, R: Threads +
             ensures room { room / least_item ≤ batch.exit.now.items.capacity }
             ensures empty { batch.exit.now.items.items ≡ [] }
         { record_queued(rt, latch, pass, queues, takers, batch, room, flag) },
+        &mut ||
+            requires turns { turns ≤ most_items }
+            requires ready { All (IsReadyAmong queues.now) lanes.now }
+            ensures { (i : ℕ) (d : _) → i < length lanes.entry.now → CapturesHeld P.Port turns (slice_index_or lanes.entry.now i d) (slice_index_or lanes.exit.now i d) }
+        { capture_until_done(rt, lanes, turns, queues, flag) },
     );
     works
 }

@@ -1,9 +1,9 @@
 // Whether the host grants a run all its threads at once.
 //
-// A joined call whose thread is refused runs behind the other one. Then the loop that waits for the captures would wait for
-// ever, and a port whose capture waits for another would never be read. So before a run begins as many workers meet as it
-// will have: each waits until all have come, for two seconds. What is granted then is granted to the run too, but where
-// another process takes it meanwhile.
+// A joined call whose thread is refused runs behind the other one. Then the recorder's loop would come behind the captures,
+// and a port whose capture waits for another would never be read. So before a run begins as many workers meet as it will
+// have: each waits until all have come, for two seconds. What is granted then is granted to the run too, but where another
+// process takes it meanwhile.
 use std::alloc::Global;
 use std::sync::Wait;
 use std::sync::atomic::{AtomicU64, Ordering};
