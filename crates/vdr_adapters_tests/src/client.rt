@@ -1,6 +1,6 @@
 // Replies of a recorder, as the client tells them.
-use crate::words::{first_word, small_number, unescaped};
-use anyhow::{Context, Result, ensure};
+use crate::words::{cut, expect, first_word, small_number, unescaped};
+use anyhow::{Result, ensure};
 use std::alloc::Global;
 use std::io::Cursor;
 use vdr_client::print_reply;
@@ -18,20 +18,24 @@ fn told(alloc: Global, asked: &[u8], reply: &[u8]) -> Result<(u8, Vec<u8>)> {
     }
 }
 
+// That what is printed is this text.
+fn is_text(alloc: Global, printed: &[u8], text: &str) -> Result<()> {
+    let text = unescaped(alloc, text)?;
+    expect(printed == text.as_bytes(), "another text")
+}
+
 // That a reply is told with this number and this text.
-fn is_told(alloc: Global, code: u8, asked: &str, reply: &str, printed: &str) -> Result<()> {
+fn is_told(alloc: Global, code: u8, asked: &str, reply: &str, text: &str) -> Result<()> {
     let reply = unescaped(alloc, reply)?;
-    let printed = unescaped(alloc, printed)?;
-    let (found, text) = told(alloc, asked.as_bytes(), reply.as_bytes())?;
+    let (found, printed) = told(alloc, asked.as_bytes(), reply.as_bytes())?;
     ensure!(found == code, "it ends with {found}");
-    ensure!(text.as_slice() == printed.as_bytes(), "another text");
-    Ok(())
+    is_text(alloc, printed.as_slice(), text)
 }
 
 /// That a reply is told as a line says: `CODE ASKED|REPLY|PRINTED`.
 pub(crate) fn tells(alloc: Global, line: &str) -> Result<()> {
-    let (code, rest) = first_word(line)?;
-    let (asked, rest) = rest.split_once('|').context("no reply")?;
-    let (reply, printed) = rest.split_once('|').context("nothing printed")?;
-    is_told(alloc, small_number(code)?, asked, reply, printed)
+    let (code, rest) = first_word(line);
+    let (asked, rest) = cut(rest, '|');
+    let (reply, text) = cut(rest, '|');
+    is_told(alloc, small_number(code)?, asked, reply, text)
 }

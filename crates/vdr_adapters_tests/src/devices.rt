@@ -1,22 +1,22 @@
 // Folders in which a medium is a device.
-use anyhow::{Result, bail, ensure};
-use std::fs::{File, Files, OpenOptions};
+use crate::words::expect;
+use anyhow::{Result, bail};
+use std::alloc::AllocError;
+use std::fs::{File, OpenOptions};
 use std::io;
-use std::time::Clock;
 use vdr_adapters::{Access, MediaFolder, MediumFile, SystemFile, SystemFolder, Trouble, Unopened};
 
 /// A folder in which the medium of this name is a device.
 #[derive(Drop)]
-pub(crate) struct WithDevice<'a, 'w, R: AllocGlobal + Files<File = File> + Clock + Eprint> {
-    pub(crate) rt: &'a R,
+pub(crate) struct WithDevice<'a, 'w> {
+    pub(crate) rt: &'a HostRuntime,
     pub(crate) folder: &'w str,
     pub(crate) name: &'w str,
     pub(crate) device: &'w str,
 }
 
-impl<'a, 'w, R: AllocGlobal + Files<File = File> + Clock + Eprint> MediaFolder
-    for WithDevice<'a, 'w, R> {
-    type File = SystemFile<&'a R>;
+impl<'a, 'w> MediaFolder for WithDevice<'a, 'w> {
+    type File = SystemFile<&'a HostRuntime>;
 
     fn trouble(&self) -> Option<Trouble> {
         None
@@ -30,7 +30,12 @@ impl<'a, 'w, R: AllocGlobal + Files<File = File> + Clock + Eprint> MediaFolder
         0
     }
 
-    fn open(&self, name: &str, mark: &str, access: Access) -> Result<SystemFile<&'a R>, Unopened> {
+    fn open(
+        &self,
+        name: &str,
+        mark: &str,
+        access: Access,
+    ) -> Result<SystemFile<&'a HostRuntime>, Unopened> {
         if name == self.name {
             open_device(self.rt, self.folder, mark, self.device)
         } else {
@@ -39,36 +44,33 @@ impl<'a, 'w, R: AllocGlobal + Files<File = File> + Clock + Eprint> MediaFolder
     }
 }
 
+// A file that is open, as one of this folder with this mark.
+fn over<'a>(
+    rt: &'a HostRuntime,
+    file: File,
+    folder: &str,
+    mark: &str,
+) -> Result<SystemFile<&'a HostRuntime>, AllocError> {
+    let mark = format!(in rt.alloc(); "{folder}/{mark}")?;
+    let folder = folder.to_string(rt.alloc())?;
+    Ok(SystemFile::over(rt, file, folder, mark))
+}
+
 // The device, as a file of this folder with this mark.
-fn open_device<'a, R: AllocGlobal + Files<File = File> + Clock + Eprint>(
-    rt: &'a R,
+fn open_device<'a>(
+    rt: &'a HostRuntime,
     folder: &str,
     mark: &str,
     device: &str,
-) -> Result<SystemFile<&'a R>, Unopened> {
-    let Ok(mark) = format!(in rt.alloc(); "{folder}/{mark}") else {
-        return Err(Unopened::NoMemory);
-    };
-    let Ok(folder) = folder.to_string(rt.alloc()) else {
-        return Err(Unopened::NoMemory);
-    };
+) -> Result<SystemFile<&'a HostRuntime>, Unopened> {
     match OpenOptions::new().read(true).write(true).open(rt, device) {
-        Ok(file) => Ok(SystemFile::over(rt, file, folder, mark)),
+        Ok(file) => over(rt, file, folder, mark).map_err(|_| Unopened::NoMemory),
         Err(error) => Err(Unopened::Shut(Trouble::System(error))),
     }
 }
 
-// A write of a file fails.
-fn fails<F: MediumFile>(file: &mut F) -> Result<()> {
-    ensure!(file.write_all_at(b"x", 0).is_err(), "it is written");
-    Ok(())
-}
-
 // The capsule of this folder, on a full device.
-fn full<'a, R: AllocGlobal + Files<File = File> + Clock + Eprint>(
-    rt: &'a R,
-    folder: &str,
-) -> Result<SystemFile<&'a R>> {
+fn full<'a>(rt: &'a HostRuntime, folder: &str) -> Result<SystemFile<&'a HostRuntime>> {
     match open_device(rt, folder, "capsule.left", "/dev/full") {
         Ok(file) => Ok(file),
         Err(_) => bail!("no full device"),
@@ -76,18 +78,13 @@ fn full<'a, R: AllocGlobal + Files<File = File> + Clock + Eprint>(
 }
 
 /// A write to a full device fails.
-pub(crate) fn fail_when_full<R: AllocGlobal + Files<File = File> + Clock + Eprint>(
-    rt: &R,
-    folder: &str,
-) -> Result<()> {
-    fails(&mut full(rt, folder)?)
+pub(crate) fn fail_when_full(rt: &HostRuntime, folder: &str) -> Result<()> {
+    let written = full(rt, folder)?.write_all_at(b"x", 0);
+    expect(written.is_err(), "it is written")
 }
 
 /// Leaves the mark of a full device.
-pub(crate) fn leave_mark<R: AllocGlobal + Files<File = File> + Clock + Eprint>(
-    rt: &R,
-    folder: &str,
-) -> Result<()> {
+pub(crate) fn leave_mark(rt: &HostRuntime, folder: &str) -> Result<()> {
     full(rt, folder)?.leave_mark(&io::Error::other("no room"));
     Ok(())
 }

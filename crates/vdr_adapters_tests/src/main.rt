@@ -18,9 +18,6 @@ mod words;
 
 use anyhow::{Context, Error, Result, ensure};
 use shelf::Shelf;
-use std::fs::{File, Files};
-use std::net::{Net, TcpListener, TcpStream};
-use std::os::unix::net::UnixListener;
 use std::time::{Clock, Duration};
 use std::{env, fs};
 use vdr_adapters::SystemFile;
@@ -34,56 +31,40 @@ fn sendable<T: Send>(value: T) -> T {
     value
 }
 
-// The numbers of the link's and of the port's port, which the first line of a script tells.
+// The numbers of the link's and of the port's port, which the first line of a script tells: `on LINK PORT`.
 fn numbers(script: &str) -> Result<(u16, u16)> {
     let first = script.lines().next().context("an empty script")?;
-    let (verb, rest) = first_word(first)?;
+    let (verb, rest) = first_word(first);
     ensure!(verb == "on", "no ports");
-    let (link, port) = first_word(rest)?;
+    let (link, port) = first_word(rest);
     Ok((port_number(link)?, port_number(port)?))
 }
 
-// Makes a socket of the file system. It stays there once it is closed.
-fn make_socket<R: Files<File = File> + Net>(rt: &R, path: &str) -> Result<()> {
-    drop(UnixListener::bind(rt, path)?);
-    Ok(())
-}
-
-// Follows a line that is about replies and files.
-fn follow_beside<R: AllocGlobal + Files<File = File> + Net>(
-    rt: &R,
-    verb: &str,
-    rest: &str,
-) -> Result<()> {
+// Follows a line that is about this host, replies and files.
+fn follow_beside(rt: &HostRuntime, verb: &str, rest: &str) -> Result<()> {
     match verb {
+        "group" => hosts::is_group(rt, rest),
+        "port-beside" => hosts::port_fails(rt, rest),
+        "closed" => hosts::is_closed(rt, rest),
+        "send" => hosts::send_run(rt, rest),
+        "socket" => hosts::make_socket(rt, rest),
+        "drops" => gauges::drops(rest),
+        "ago" => gauges::ago(rest),
         "client" => client::tells(rt.alloc(), rest),
-        "socket" => make_socket(rt, rest),
-        _ => paths::follow(rt, verb, rest).context("no such line")?,
+        _ => paths::follow(rt, verb, rest),
     }
 }
 
 // Follows a line of a script.
-fn follow<
-    'a,
-    R: AllocGlobal
-        + Files<File = File>
-        + Net<Listener = TcpListener, Stream = TcpStream>
-        + Clock
-        + Eprint,
-    L: Link + Drop,
-    P: Port + Drop,
->(
-    rt: &'a R,
+fn follow<'a, L: Link + Drop, P: Port + Drop>(
+    rt: &'a HostRuntime,
     alarm: &'a Alarm,
-    shelf: &mut Shelf<'a, SystemFile<&'a R>>,
+    shelf: &mut Shelf<'a, SystemFile<&'a HostRuntime>>,
     wires: &mut Wires<L, P>,
     line: &str,
 ) -> Result<()> {
-    let (verb, rest) = line.split_once(' ').unwrap_or((line, ""));
+    let (verb, rest) = first_word(line);
     if let Some(done) = shelf.follow(rt.alloc(), alarm, verb, rest) {
-        return done;
-    }
-    if let Some(done) = wires.follow_own(verb, rest) {
         return done;
     }
     if let Some(done) = shelf::follow(rt, shelf, verb, rest) {
@@ -92,30 +73,23 @@ fn follow<
     if let Some(done) = wires.follow(rt, verb, rest) {
         return done;
     }
-    if let Some(done) = gauges::follow(verb, rest) {
-        return done;
-    }
     follow_beside(rt, verb, rest)
 }
 
 // Tells a line that is not met.
-fn tell<R: Print>(rt: &R, name: &str, index: usize, line: &str, unmet: &Error) {
+fn tell(rt: &HostRuntime, name: &str, index: usize, line: &str, unmet: &Error) {
     let number = index.saturating_add(1);
     let _ = println!(rt; "{name}:{number}: {line}: {unmet}");
 }
 
 // Follows the lines of a script, and tells those that are not met. Gives how many there are.
-fn follow_all<
-    'a,
-    R: AllocGlobal
-        + Files<File = File>
-        + Net<Listener = TcpListener, Stream = TcpStream>
-        + Clock
-        + Print
-        + Eprint,
-    L: Link + Drop,
-    P: Port + Drop,
->(rt: &'a R, alarm: &'a Alarm, wires: &mut Wires<L, P>, name: &str, script: &str) -> u64 {
+fn follow_all<'a, L: Link + Drop, P: Port + Drop>(
+    rt: &'a HostRuntime,
+    alarm: &'a Alarm,
+    wires: &mut Wires<L, P>,
+    name: &str,
+    script: &str,
+) -> u64 {
     let mut shelf = Shelf::new();
     let mut count = 0u64;
     for (index, line) in script.lines().enumerate() {
@@ -130,15 +104,13 @@ fn follow_all<
 }
 
 // Follows the lines of a script over a link and a port of these numbers.
-fn follow_over<
-    R: AllocGlobal
-        + Files<File = File>
-        + Net<Listener = TcpListener, Stream = TcpStream>
-        + Clock
-        + Print
-        + Eprint
-        + Sync,
->(rt: &R, (link, port): (u16, u16), began: Duration, name: &str, script: &str) -> u64 {
+fn follow_over(
+    rt: &HostRuntime,
+    (link, port): (u16, u16),
+    began: Duration,
+    name: &str,
+    script: &str,
+) -> u64 {
     let alarm = Alarm::new();
     let tcp = sendable(TcpLink::with_number(rt, link)).until(&alarm);
     let udp = sendable(UdpPort::with_number(rt, port, began)).until(&alarm);
@@ -146,25 +118,25 @@ fn follow_over<
     follow_all(rt, &alarm, &mut wires, name, script)
 }
 
-// Runs a script.
-fn run<
-    R: AllocGlobal
-        + Files<File = File>
-        + Net<Listener = TcpListener, Stream = TcpStream>
-        + Clock
-        + Print
-        + Eprint
-        + Sync,
->(rt: &R, name: &str) -> Result<()> {
+// Runs a script. Gives how many lines it has.
+fn run(rt: &HostRuntime, name: &str) -> Result<u64> {
     let script = fs::read_to_string(rt, name)?;
     let numbers = numbers(script.as_str())?;
-    let count = follow_over(rt, numbers, rt.monotonic()?, name, script.as_str());
-    println!(rt; "{name}: {count} lines")?;
+    let began = rt.monotonic()?;
+    Ok(follow_over(rt, numbers, began, name, script.as_str()))
+}
+
+// Runs the scripts of these names, and tells how many lines each has.
+fn run_all(rt: &HostRuntime) -> Result<()> {
+    for name in env::args(rt)?.skip(1) {
+        let count = run(rt, name.as_str())?;
+        println!(rt; "{name}: {count} lines")?;
+    }
     Ok(())
 }
 
 // What is read and written over streams.
-fn run_streams<R: AllocGlobal + Files<File = File>>(rt: &R) -> Result<()> {
+fn run_streams(rt: &HostRuntime) -> Result<()> {
     streams::are_read()?;
     streams::are_written(rt.alloc())?;
     streams::read_no_folder(rt)?;
@@ -173,9 +145,7 @@ fn run_streams<R: AllocGlobal + Files<File = File>>(rt: &R) -> Result<()> {
 }
 
 fn main(rt: HostRuntime) -> Result<()> {
-    for name in env::args(&rt)?.skip(1) {
-        run(&rt, name.as_str())?;
-    }
+    run_all(&rt)?;
     run_streams(&rt)?;
     println!(rt; "streams: done")?;
     Ok(())

@@ -1,5 +1,5 @@
 // The peers of a link.
-use crate::words::{number, run_of, unescaped};
+use crate::words::{done, expect, first_word, number, run_of, run_of_word, unescaped};
 use anyhow::{Context, Result, ensure};
 use std::alloc::Global;
 use std::io;
@@ -10,25 +10,26 @@ use std::time::Duration;
 // A peer says something.
 fn say(alloc: Global, peer: &mut TcpStream, text: &str) -> Result<()> {
     let bytes = unescaped(alloc, text)?;
-    peer.write_all(bytes.as_bytes())?;
-    Ok(())
+    done(peer.write_all(bytes.as_bytes()))
 }
 
 // A peer says so many x.
 fn say_x(alloc: Global, peer: &mut TcpStream, count: &str) -> Result<()> {
-    let bytes = run_of(alloc, number(count)?, "x")?;
-    peer.write_all(bytes.as_slice())?;
-    Ok(())
+    let bytes = run_of_word(alloc, count, "x")?;
+    done(peer.write_all(bytes.as_slice()))
 }
 
 // That the next bytes that come to a peer are these.
-fn gets(alloc: Global, peer: &mut TcpStream, text: &str) -> Result<()> {
-    let bytes = unescaped(alloc, text)?;
-    let bytes = bytes.as_bytes();
+fn gets(alloc: Global, peer: &mut TcpStream, bytes: &[u8]) -> Result<()> {
     let mut piece = run_of(alloc, bytes.len() as u64, "?")?;
     peer.read_exact(piece.as_mut_slice())?;
-    ensure!(piece.as_slice() == bytes, "other bytes");
-    Ok(())
+    expect(piece.as_slice() == bytes, "other bytes")
+}
+
+// That what comes next to a peer is this text.
+fn gets_text(alloc: Global, peer: &mut TcpStream, text: &str) -> Result<()> {
+    let bytes = unescaped(alloc, text)?;
+    gets(alloc, peer, bytes.as_bytes())
 }
 
 // Whether the other end has hung up, which shows within a tenth of a second.
@@ -41,9 +42,13 @@ fn is_gone(peer: &mut TcpStream) -> io::Result<bool> {
     }
 }
 
+// That the other end has hung up, or that it has not.
+fn stays_or_not(peer: &mut TcpStream, goes: bool) -> Result<()> {
+    expect(is_gone(peer)? == goes, "it is not so")
+}
+
 // The peer of this place hangs up.
-fn hang_up(peers: &mut Vec<TcpStream>, word: &str) -> Result<()> {
-    let place = number(word)? as usize;
+fn hang_up(peers: &mut Vec<TcpStream>, place: usize) -> Result<()> {
     ensure!(place < peers.len(), "no such peer");
     drop(peers.remove(place));
     Ok(())
@@ -54,11 +59,8 @@ fn follow_one(alloc: Global, peer: &mut TcpStream, verb: &str, rest: &str) -> Re
     match verb {
         "say" => say(alloc, peer, rest),
         "say-x" => say_x(alloc, peer, rest),
-        "gets" => gets(alloc, peer, rest),
-        _ => {
-            ensure!(is_gone(peer)? == (verb == "gone"), "it is not so");
-            Ok(())
-        }
+        "gets" => gets_text(alloc, peer, rest),
+        _ => stays_or_not(peer, verb == "gone"),
     }
 }
 
@@ -69,11 +71,15 @@ pub(crate) fn follow(
     verb: &str,
     rest: &str,
 ) -> Result<()> {
-    let (word, rest) = rest.split_once(' ').unwrap_or((rest, ""));
-    if verb == "hang-up" {
-        return hang_up(peers, word);
-    }
+    let (word, rest) = first_word(rest);
     let place = number(word)? as usize;
-    let peer = peers.get_mut(place).context("no such peer")?;
-    follow_one(alloc, peer, verb, rest)
+    if verb == "hang-up" {
+        return hang_up(peers, place);
+    }
+    follow_one(
+        alloc,
+        peers.get_mut(place).context("no such peer")?,
+        verb,
+        rest,
+    )
 }

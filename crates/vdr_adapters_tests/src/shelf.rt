@@ -5,9 +5,7 @@ use crate::paths::lock_up;
 use crate::words::first_word;
 use anyhow::Result;
 use std::alloc::Global;
-use std::fs::{File, Files};
 use std::mem;
-use std::time::Clock;
 use vdr_adapters::{FileMedia, MediumFile, SystemFile};
 use vdr_sockets::Alarm;
 
@@ -51,13 +49,9 @@ impl<'a, F: MediumFile + Drop> Shelf<'a, F> {
         }
     }
 
-    // That this stands in the way of the media, or nothing does where a file that is locked up may be written.
-    fn tells(&self, alloc: Global, verb: &str, words: &str) -> Result<()> {
-        if verb == "tells-locked" && self.may_write {
-            tells(alloc, &self.media, "")
-        } else {
-            tells(alloc, &self.media, words)
-        }
+    // That nothing stands in the way of the media where a file that is locked up may be written, and else this does.
+    fn tells_locked(&self, alloc: Global, words: &str) -> Result<()> {
+        tells(alloc, &self.media, if self.may_write { "" } else { words })
     }
 
     /// Follows a line about the media that needs no files. None where there is no such line.
@@ -68,61 +62,51 @@ impl<'a, F: MediumFile + Drop> Shelf<'a, F> {
         verb: &str,
         rest: &str,
     ) -> Option<Result<()>> {
-        match verb {
+        let done = match verb {
             "shut" | "close" | "keep" | "let-go" => {
                 self.change(alarm, verb);
-                Some(Ok(()))
+                Ok(())
             }
-            "tells" | "tells-locked" => Some(self.tells(alloc, verb, rest)),
-            "timed" => Some(media::timed(&self.media, rest)),
-            "sync" | "read" | "write" | "size" | "has" | "put" | "fill" => {
-                let may_write = self.may_write;
-                Some(media::follow(alloc, &mut self.media, may_write, verb, rest))
-            }
-            _ => None,
-        }
+            "tells" => tells(alloc, &self.media, rest),
+            "tells-locked" => self.tells_locked(alloc, rest),
+            "timed" => media::timed(&self.media, rest),
+            _ => return media::follow(alloc, &mut self.media, self.may_write, verb, rest),
+        };
+        Some(done)
     }
 }
 
-// Opens media in which a medium is a device.
-fn open_device<'a, R: AllocGlobal + Files<File = File> + Clock + Eprint>(
-    rt: &'a R,
+// Opens media in which a medium is a device: the words `FOLDER NAME DEVICE`.
+fn open_device<'a>(
+    rt: &'a HostRuntime,
+    shelf: &mut Shelf<'a, SystemFile<&'a HostRuntime>>,
     rest: &str,
-) -> Result<FileMedia<'a, SystemFile<&'a R>>> {
-    let (folder, rest) = first_word(rest)?;
-    let (name, device) = first_word(rest)?;
-    Ok(FileMedia::open_in(&WithDevice {
+) -> Result<()> {
+    let (folder, rest) = first_word(rest);
+    let (name, device) = first_word(rest);
+    shelf.put(FileMedia::open_in(&WithDevice {
         rt,
         folder,
         name,
         device,
-    })?)
+    })?);
+    Ok(())
 }
 
 // Opens the media of a folder.
-fn open<'a, R: AllocGlobal + Files<File = File> + Clock + Eprint>(
-    rt: &'a R,
-    shelf: &mut Shelf<'a, SystemFile<&'a R>>,
+fn open<'a>(
+    rt: &'a HostRuntime,
+    shelf: &mut Shelf<'a, SystemFile<&'a HostRuntime>>,
     folder: &str,
 ) -> Result<()> {
     shelf.put(FileMedia::open(rt, folder)?);
     Ok(())
 }
 
-// Opens media in which a medium is a device.
-fn open_with<'a, R: AllocGlobal + Files<File = File> + Clock + Eprint>(
-    rt: &'a R,
-    shelf: &mut Shelf<'a, SystemFile<&'a R>>,
-    rest: &str,
-) -> Result<()> {
-    shelf.put(open_device(rt, rest)?);
-    Ok(())
-}
-
 // Makes a file read-only.
-fn lock<'a, R: AllocGlobal + Files<File = File> + Clock + Eprint>(
-    rt: &'a R,
-    shelf: &mut Shelf<'a, SystemFile<&'a R>>,
+fn lock<F: MediumFile + Drop>(
+    rt: &HostRuntime,
+    shelf: &mut Shelf<'_, F>,
     path: &str,
 ) -> Result<()> {
     shelf.may_write = lock_up(rt, path)?;
@@ -130,15 +114,15 @@ fn lock<'a, R: AllocGlobal + Files<File = File> + Clock + Eprint>(
 }
 
 /// Follows a line of a script that opens files. None where there is no such line.
-pub(crate) fn follow<'a, R: AllocGlobal + Files<File = File> + Clock + Eprint>(
-    rt: &'a R,
-    shelf: &mut Shelf<'a, SystemFile<&'a R>>,
+pub(crate) fn follow<'a>(
+    rt: &'a HostRuntime,
+    shelf: &mut Shelf<'a, SystemFile<&'a HostRuntime>>,
     verb: &str,
     rest: &str,
 ) -> Option<Result<()>> {
     let done = match verb {
         "open" => open(rt, shelf, rest),
-        "device" => open_with(rt, shelf, rest),
+        "device" => open_device(rt, shelf, rest),
         "lock-up" => lock(rt, shelf, rest),
         "full" => fail_when_full(rt, rest),
         "mark" => leave_mark(rt, rest),

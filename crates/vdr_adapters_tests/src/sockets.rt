@@ -1,5 +1,5 @@
 // What is heard over a link, and taken of a port.
-use crate::words::{count_of, first_word, number, run_of, unescaped};
+use crate::words::{count_of, expect, first_word, number, run_of, run_of_word, unescaped};
 use anyhow::{Result, bail, ensure};
 use arrayvec::ArrayVec;
 use std::alloc::Global;
@@ -23,16 +23,15 @@ fn next_heard<L: Link>(link: &mut L, into: &mut ArrayVec<u8, LONGEST_LINE>) -> H
 fn hear<L: Link>(link: &mut L, line: &[u8]) -> Result<()> {
     let mut into = ArrayVec::new();
     let heard = next_heard(link, &mut into);
-    ensure!(
+    expect(
         heard == Heard::Line && into.as_slice() == line,
-        "another line"
-    );
-    Ok(())
+        "another line",
+    )
 }
 
 // That the next line of a link is so many x.
 fn hear_x<L: Link>(alloc: Global, link: &mut L, count: &str) -> Result<()> {
-    let line = run_of(alloc, number(count)?, "x")?;
+    let line = run_of_word(alloc, count, "x")?;
     hear(link, line.as_slice())
 }
 
@@ -67,25 +66,29 @@ fn is_quiet<L: Link>(link: &mut L, looks: u64) -> bool {
 }
 
 // Replies these bytes.
-fn reply<L: Link>(alloc: Global, link: &mut L, text: &str) -> Result<()> {
+fn reply<L: Link>(link: &mut L, bytes: &[u8]) -> Result<()> {
+    expect(link.reply(bytes).is_ok(), "a reply failed")
+}
+
+// Replies this text.
+fn reply_text<L: Link>(alloc: Global, link: &mut L, text: &str) -> Result<()> {
     let bytes = unescaped(alloc, text)?;
-    ensure!(link.reply(bytes.as_bytes()).is_ok(), "a reply failed");
-    Ok(())
+    reply(link, bytes.as_bytes())
 }
 
 // Replies pieces of 65,536 bytes, so many.
-fn reply_pieces<L: Link>(alloc: Global, link: &mut L, count: &str) -> Result<()> {
+fn reply_pieces<L: Link>(alloc: Global, link: &mut L, count: u64) -> Result<()> {
     let piece = run_of(alloc, 65_536, ".")?;
-    for _ in 0..number(count)? {
-        ensure!(link.reply(piece.as_slice()).is_ok(), "a reply failed");
+    for _ in 0..count {
+        reply(link, piece.as_slice())?;
     }
     Ok(())
 }
 
 // That a link stays quiet for so many looks.
 fn stays_quiet<L: Link>(link: &mut L, looks: &str) -> Result<()> {
-    ensure!(is_quiet(link, number(looks)?), "it isn't quiet");
-    Ok(())
+    let looks = number(looks)?;
+    expect(is_quiet(link, looks), "it isn't quiet")
 }
 
 /// Follows a line of a script that is about a link.
@@ -100,8 +103,8 @@ pub(crate) fn follow_link<L: Link>(
         "hear-x" => hear_x(alloc, link, rest),
         "link-is" => hear_of(link, rest),
         "quiet" => stays_quiet(link, rest),
-        "reply" => reply(alloc, link, rest),
-        _ => reply_pieces(alloc, link, rest),
+        "reply" => reply_text(alloc, link, rest),
+        _ => reply_pieces(alloc, link, number(rest)?),
     }
 }
 
@@ -116,23 +119,27 @@ fn next_taken<P: Port>(port: &mut P, into: &mut ArrayVec<u8, LONGEST_TAKEN>) -> 
     Taken::Quiet
 }
 
+// That these are so many bytes, each the first of a text.
+fn are_bytes(bytes: &[u8], length: u64, text: &str) -> Result<()> {
+    expect(bytes.len() as u64 == length, "another length")?;
+    expect(count_of(bytes, text) == length, "other bytes")
+}
+
 // When the next datagram came, which has so many bytes, each the first of a text, and a stamp of this century.
 fn taken<P: Port>(port: &mut P, length: u64, text: &str) -> Result<u64> {
     let mut into = ArrayVec::new();
     let Taken::Datagram { received, utc } = next_taken(port, &mut into) else {
         bail!("no datagram");
     };
-    let bytes = into.as_slice();
-    ensure!(bytes.len() as u64 == length, "another length");
-    ensure!(count_of(bytes, text) == length, "other bytes");
-    ensure!(utc > 1_700_000_000_000, "another stamp");
+    are_bytes(into.as_slice(), length, text)?;
+    expect(utc > 1_700_000_000_000, "another stamp")?;
     Ok(received)
 }
 
 /// That the next datagram of a port is so many bytes, each the first of a text, and came in the first minute and not before the last
 /// one.
 pub(crate) fn take<P: Port>(port: &mut P, last: &mut u64, rest: &str) -> Result<()> {
-    let (length, text) = first_word(rest)?;
+    let (length, text) = first_word(rest);
     let received = taken(port, number(length)?, text)?;
     ensure!(*last <= received && received < 60_000, "another time");
     *last = received;

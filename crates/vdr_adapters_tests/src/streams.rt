@@ -1,7 +1,8 @@
 // Standard streams.
-use anyhow::{Result, ensure};
+use crate::words::expect;
+use anyhow::{Result, bail, ensure};
 use std::alloc::Global;
-use std::fs::{File, Files, OpenOptions};
+use std::fs::{File, OpenOptions};
 use std::io::Cursor;
 use std::{fs, io};
 use vdr_adapters::{StandardStreams, StdIn, StdOut, Trouble};
@@ -9,19 +10,19 @@ use vdr_outside::{Sink, Source};
 
 // That a source gives so many bytes.
 fn gives<S: Source>(source: &mut S, into: &mut [u8], count: usize) -> Result<()> {
-    match source.read(into) {
-        Ok(given) => ensure!(given == count, "it gives {given}"),
-        Err(_) => ensure!(false, "it fails"),
-    }
+    let Ok(given) = source.read(into) else {
+        bail!("it fails");
+    };
+    ensure!(given == count, "it gives {given}");
     Ok(())
 }
 
 // That a sink takes all of these bytes.
 fn takes<S: Sink>(sink: &mut S, bytes: &[u8]) -> Result<()> {
-    match sink.write(bytes) {
-        Ok(taken) => ensure!(taken == bytes.len(), "it takes {taken}"),
-        Err(_) => ensure!(false, "it fails"),
-    }
+    let Ok(taken) = sink.write(bytes) else {
+        bail!("it fails");
+    };
+    ensure!(taken == bytes.len(), "it takes {taken}");
     Ok(())
 }
 
@@ -31,20 +32,23 @@ fn is_told(alloc: Global, trouble: Option<&Trouble>, words: &str) -> Result<()> 
         Some(trouble) => format!(in alloc; "{trouble}")?,
         None => String::new(alloc),
     };
-    ensure!(text.as_str().starts_with(words), "it tells otherwise");
-    Ok(())
+    expect(text.as_str().starts_with(words), "it tells otherwise")
+}
+
+// That a source gives `feed`, three bytes first, and then nothing.
+fn is_read<S: Source>(source: &mut S) -> Result<()> {
+    let mut piece = [0; 3];
+    gives(source, &mut piece, 3)?;
+    expect(piece == *b"fee", "other bytes")?;
+    gives(source, &mut piece, 1)?;
+    gives(source, &mut piece, 0)
 }
 
 /// Bytes of a reader are handed on.
 pub(crate) fn are_read() -> Result<()> {
     let mut input = StdIn::new(Cursor::new(b"feed"));
-    let mut piece = [0; 3];
-    gives(&mut input, &mut piece, 3)?;
-    ensure!(piece == *b"fee", "other bytes");
-    gives(&mut input, &mut piece, 1)?;
-    gives(&mut input, &mut piece, 0)?;
-    ensure!(input.trouble().is_none(), "a trouble");
-    Ok(())
+    is_read(&mut input)?;
+    expect(input.trouble().is_none(), "a trouble")
 }
 
 /// Bytes are handed on to a writer.
@@ -52,36 +56,34 @@ pub(crate) fn are_written(alloc: Global) -> Result<()> {
     let mut output = StdOut::new(Vec::new(alloc));
     takes(&mut output, b"gap")?;
     takes(&mut output, b"")?;
-    ensure!(output.trouble().is_none(), "a trouble");
-    Ok(())
+    expect(output.trouble().is_none(), "a trouble")
 }
 
 /// A folder can't be read.
-pub(crate) fn read_no_folder<R: AllocGlobal + Files<File = File>>(rt: &R) -> Result<()> {
+pub(crate) fn read_no_folder(rt: &HostRuntime) -> Result<()> {
     let mut input = StdIn::new(File::open(rt, ".")?);
-    ensure!(input.read(&mut [0; 3]).is_err(), "a folder that is read");
+    expect(input.read(&mut [0; 3]).is_err(), "a folder that is read")?;
     is_told(rt.alloc(), input.trouble(), "Is a directory")
 }
 
 /// A full device takes nothing.
-pub(crate) fn fill_no_device<R: AllocGlobal + Files<File = File>>(rt: &R) -> Result<()> {
+pub(crate) fn fill_no_device(rt: &HostRuntime) -> Result<()> {
     let mut output = StdOut::new(OpenOptions::new().write(true).open(rt, "/dev/full")?);
-    ensure!(output.write(b"gap").is_err(), "a full device");
+    expect(output.write(b"gap").is_err(), "a full device")?;
     is_told(rt.alloc(), output.trouble(), "No space left on device")
 }
 
 // A file and what stands in it.
-fn is_kept<R: AllocGlobal + Files<File = File>>(rt: &R) -> io::Result<bool> {
+fn is_kept(rt: &HostRuntime) -> io::Result<bool> {
     fs::write(rt, "beside", b"medium")?;
     let bytes = fs::read(rt, "beside")?;
     Ok(bytes.as_slice() == b"medium".as_slice())
 }
 
 /// A file that is opened beside filled streams is none of them.
-pub(crate) fn are_filled<R: AllocGlobal + Files<File = File>>(rt: &R) -> Result<()> {
+pub(crate) fn are_filled(rt: &HostRuntime) -> Result<()> {
     let filled = StandardStreams::fill(rt)?;
     let is_kept = is_kept(rt);
     drop(filled);
-    ensure!(is_kept?, "other bytes");
-    Ok(())
+    expect(is_kept?, "other bytes")
 }

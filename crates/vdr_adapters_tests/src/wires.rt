@@ -1,12 +1,11 @@
 // The port and the link of a script, and the peers that connect to the link.
-use crate::hosts::connect;
+use crate::hosts::{begin, connect, is_within, link_fails};
+use crate::peers;
 use crate::sockets::{follow_link, take, take_of};
-use crate::{hosts, peers};
 use anyhow::Result;
 use std::alloc::Global;
-use std::fs::{File, Files};
-use std::net::{Net, TcpListener, TcpStream};
-use std::time::{Clock, Duration};
+use std::net::TcpStream;
+use std::time::Duration;
 use vdr_outside::{Link, Port};
 
 /// A port and a link, and who is connected to the link, in the order of coming.
@@ -37,8 +36,8 @@ impl<L: Link + Drop, P: Port + Drop> Wires<L, P> {
         }
     }
 
-    /// Follows a line about the port, the link and its peers that needs no system. None where there is no such line.
-    pub(crate) fn follow_own(&mut self, verb: &str, rest: &str) -> Option<Result<()>> {
+    // Follows a line about the port, the link and its peers that needs no system. None where there is no such line.
+    fn follow_own(&mut self, verb: &str, rest: &str) -> Option<Result<()>> {
         let done = match verb {
             "take" => take(&mut self.port, &mut self.last, rest),
             "port-is" => take_of(&mut self.port, rest),
@@ -53,18 +52,20 @@ impl<L: Link + Drop, P: Port + Drop> Wires<L, P> {
         Some(done)
     }
 
-    /// Follows a line of a script that is about the host and about time. None where there is no such line.
-    pub(crate) fn follow<
-        R: AllocGlobal
-            + Files<File = File>
-            + Net<Listener = TcpListener, Stream = TcpStream>
-            + Clock
-            + Eprint,
-    >(&mut self, rt: &R, verb: &str, rest: &str) -> Option<Result<()>> {
-        match verb {
-            "connect" => Some(connect(rt, self.number, &mut self.peers)),
-            "begin" | "within" => Some(hosts::follow_time(rt, &mut self.began, verb, rest)),
-            _ => hosts::follow(rt, self.number, verb, rest),
-        }
+    /// Follows a line about the port, the link, its peers and time. None where there is no such line.
+    pub(crate) fn follow(
+        &mut self,
+        rt: &HostRuntime,
+        verb: &str,
+        rest: &str,
+    ) -> Option<Result<()>> {
+        let done = match verb {
+            "connect" => connect(rt, self.number, &mut self.peers),
+            "link-beside" => link_fails(rt, self.number),
+            "begin" => begin(rt, &mut self.began),
+            "within" => is_within(rt, self.began, rest),
+            _ => return self.follow_own(verb, rest),
+        };
+        Some(done)
     }
 }
