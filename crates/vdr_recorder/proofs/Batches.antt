@@ -2,11 +2,14 @@
 use Rattle.std.proofs.Common.{◌≡◌, ◌≢◌, ◌≤◌, ◌<◌, ◌+◌, ◌*◌, ◌^◌, ℕ, List, [], ◌∷◌, ◌++◌, length, take, drop, sum_by, ◌==◌, get_or, refl, sym, ap, ◌∙◌, subst, arith, ⊎_elim, append_assoc, zero-add}
 use Rattle.std.proofs.lemmas.Bool.{cases_eq, eq-eqb, ne_eqb, cond-true, cond-false}
 use Rattle.std.proofs.lemmas.List.{take_all, take_more, take-append-drop}
-use Rattle.std.proofs.lemmas.List.Sums.{sum_by-append}
+use Rattle.std.proofs.lemmas.List.Sums.{sum_by-append, sum_by-cons}
 use Rattle.std.proofs.lemmas.List.Elements.{filter-append}
 use Rattle.vdr_terms.specs.Records.{Record, total}
 use Rattle.vdr_terms.specs.Counting.{next_number}
+use Rattle.vdr_terms.specs.Rates.{Limit}
+use Rattle.vdr_terms.specs.Sizes.{record_size, records_size}
 use Rattle.vdr_config.specs.Configuration.{Configuration}
+use Rattle.vdr_config.specs.Sizes.{limits_in}
 use Rattle.vdr_core.specs.Runs.{RunStart}
 use Rattle.vdr_core.specs.Taken.{Captured, of_group}
 use Rattle.vdr_core.specs.Recorder.{recorder_after}
@@ -14,7 +17,9 @@ use Rattle.vdr_run.specs.declared.maker.Maker.{Maker}
 use Rattle.vdr_run.specs.Accounts.{Counted}
 use Rattle.vdr_run.specs.Making.{counted_of, Makes, IsMaking, TakesOne}
 use Rattle.vdr_run.specs.Meters.{rates_of}
-use Rattle.vdr_recorder.specs.Making.{MakesBy, numbers_of}
+use Rattle.vdr_run.specs.Sizes.{FitAfter, bytes_of}
+use Rattle.vdr_run.proofs.Sizes.{bytes_anywhere, bytes_grow}
+use Rattle.vdr_recorder.specs.Making.{FitBehind, HasRoom, MakesBy, least_record, numbers_of}
 
 -- The maker has taken k of these items since it had made nothing of them.
 pub record HasTaken (config : Configuration) (k : ℕ) (items : List Captured) (before after : Maker) : Type 0 where
@@ -25,6 +30,44 @@ pub record HasTaken (config : Configuration) (k : ℕ) (items : List Captured) (
   pub few : length after.records.items ≤ 2 * k
   pub numbers : (g : ℕ) → g < 16 → next_number (counted_of after g).pending ≡ next_number (counted_of before g).pending + numbers_of g (take k items)
   pub room : before.records.capacity ≤ after.records.capacity
+
+-- Records are no more than one for each 44 of their bytes.
+count_least : (records : List Record) → least_record * length records ≤ records_size records
+count_least [] = omega arith
+count_least (r ∷ rs) =
+    let rest = count_least rs in
+    let sum = sum_by-cons record_size r rs in
+    omega (arith, rest, sum)
+
+-- The records of items that fit behind those before.
+pub records_fit : (limits : ℕ → Limit) (start : RunStart) (popped items : List Captured) (records : List Record) (room : ℕ) → start.limits ≡ limits → FitAfter limits popped items room
+    → (recorder_after start (popped ++ items)).made ≡ (recorder_after start popped).made ++ records → records_size records ≤ room
+records_fit limits start popped items records room same fit made =
+    let all = bytes_anywhere start (popped ++ items) in
+    let earlier = bytes_anywhere start popped in
+    let sum = ap records_size made in
+    let parts = sum_by-append record_size (recorder_after start popped).made records in
+    let fits = subst (λ (l : ℕ → Limit). FitAfter l popped items room) (sym same) fit in
+    omega (arith, all, earlier, sum, parts, fits)
+
+-- So do the first of them.
+front_fits : (limits : ℕ → Limit) (popped items : List Captured) (k room : ℕ) → FitAfter limits popped items room → FitAfter limits popped (take k items) room
+front_fits limits popped items k room fit =
+    let all = append_assoc popped (take k items) (drop k items) ∙ ap (λ (xs : List Captured). popped ++ xs) (take-append-drop k items) in
+    let grown = bytes_grow limits (popped ++ take k items) (drop k items) in
+    let fits = subst (λ (xs : List Captured). bytes_of limits xs ≤ bytes_of limits popped + room) (sym all) fit in
+    omega (arith, grown, fits)
+
+-- Behind the first of a batch there is room for the records of one more.
+pub room_left : (config : Configuration) (k : ℕ) (items : List Captured) (before mid : Maker) → HasTaken config k items before mid → FitBehind config before items config.batch → HasRoom config before
+    → length mid.records.items + 2 ≤ mid.records.capacity
+room_left config k items before mid h short room =
+    let making = h.making short.start short.popped short.makes.makes in
+    let fit = front_fits (limits_in config.groups) short.popped items k config.batch short.fit in
+    let size = records_fit (limits_in config.groups) short.start short.popped (take k items) mid.records.items config.batch short.makes.limits fit making.ends in
+    let count = count_least mid.records.items in
+    let kept = h.room in
+    omega (arith, size, count, kept, room)
 
 -- All of them were taken.
 pub makes_all : (config : Configuration) (k : ℕ) (items : List Captured) (before after : Maker) → length items ≤ k → HasTaken config k items before after → (start : RunStart) (popped : List Captured)

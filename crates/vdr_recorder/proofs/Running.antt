@@ -23,11 +23,13 @@ use Rattle.vdr_durability.proofs.Whole.{whole_has_not_failed}
 use Rattle.vdr_outside.specs.Disk.{Disk}
 use Rattle.vdr_config.specs.Configuration.{Configuration}
 use Rattle.vdr_config.specs.Sizes.{limits_in}
-use Rattle.vdr_durability.specs.Commits.{IsDoneIn, IsFit, items_size}
-use Rattle.vdr_durability.proofs.ItemSizes.{closes_size, made_size}
-use Rattle.vdr_run.specs.Making.{closing_by, rest_of}
-use Rattle.vdr_recorder.specs.Making.{MakesBy}
+use Rattle.vdr_durability.specs.Commits.{IsDoneIn, IsFit}
+use Rattle.vdr_durability.proofs.ItemSizes.{closes_size}
+use Rattle.vdr_run.specs.Making.{Makes, closing_by, rest_of}
+use Rattle.vdr_run.specs.declared.maker.Maker.{Maker}
+use Rattle.vdr_recorder.specs.Making.{FitBehind, MakesBy}
 use Rattle.vdr_recorder.specs.Recordings.{HasDone, HasKept, HasRecorded, KeepsEvent, RecorderState}
+use Rattle.vdr_recorder.proofs.Batches.{records_fit}
 use Rattle.vdr_recorder.proofs.Continuing.{has_moment, left_with}
 
 -- Items of configured groups that are short enough.
@@ -46,9 +48,11 @@ short_more k items c within is before recordable =
     (All-cons (λ (c : Captured). length c.bytes ≤ largest) c [] (recordable_short c.bytes recordable) (All-nil (λ (c : Captured). length c.bytes ≤ largest))))
 
 -- The records of a batch of items fit the configuration's batch.
-pub batch_is_short : (batch : ℕ) (items : List Captured) (records : List Record) (start : RunStart) (popped : List Captured) → items_size items ≤ batch
-    → (recorder_after start (popped ++ items)).made ≡ (recorder_after start popped).made ++ records → records_size records ≤ batch
-batch_is_short batch items records start popped short made = let size = made_size start popped items records made in omega (arith, size, short)
+pub batch_is_short : (config : Configuration) (maker : Maker) (items : List Captured) (records : List Record) → FitBehind config maker items config.batch
+    → ((start : RunStart) (popped : List Captured) → Makes config start popped maker → (recorder_after start (popped ++ items)).made ≡ (recorder_after start popped).made ++ records)
+    → records_size records ≤ config.batch
+batch_is_short config maker items records short made =
+    records_fit (limits_in config.groups) short.start short.popped items records config.batch short.makes.limits short.fit (made short.start short.popped short.makes.makes)
 
 -- And those of a close.
 pub close_is_short : (config : Configuration) (rest : List Counts) (records : List Record) (start : RunStart) (popped : List Captured) → 2_048 ≤ config.batch
@@ -138,12 +142,12 @@ module _ {tells tells_images : Type 0} (opening : Opening) (events : List Event)
       open_now = sym (h.works works).open_is ∙ opened
 
       pub batch_goes_on : (items : List Captured) (records : List Record) → (recorder_after (state_left opening events).start ((state_left opening events).popped ++ items)).made ≡ (recorder_in (state_left opening events)).made ++ records
-          → items_size items ≤ r.vault.config.batch → All (λ c. is_configured (limits_in r.vault.config.groups c.group) ≡ true) items → All (λ c. length c.bytes ≤ largest) items
+          → records_size records ≤ r.vault.config.batch → All (λ c. is_configured (limits_in r.vault.config.groups c.group) ≡ true) items → All (λ c. length c.bytes ≤ largest) items
           → IsDoneIn opening.settings.limits r.vault.config.batch (state_left opening events) (Commit records items)
       batch_goes_on items records made fits known short = inl (record {
         made = record { is_open = open_now; made = made };
         fit = subst (λ (limits : ℕ → Limit). All (IsFit limits) items) limits_are (fit_all (limits_in r.vault.config.groups) items known short);
-        short = batch_is_short r.vault.config.batch items records (state_left opening events).start (state_left opening events).popped fits made;
+        short = fits;
       })
 
       pub batch_done : (items : List Captured) (after : RecorderState) (new : Disk tells tells_images) (records : List Record)

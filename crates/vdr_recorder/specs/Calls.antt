@@ -1,15 +1,14 @@
 -- What each call of a recorder on its media is, what it refuses, and what it keeps.
-use Rattle.std.specs.Prelude.{◌≡◌, ◌≤◌, ◌<◌, ◌⊎◌, ◌↔◌, ◌+◌, ◌*◌, ◌^◌, ℕ, List, [], Bool, true, false, length, All, Some, None, option_map, Result, Err, IfOk, OnErr, OnOk, ⊤}
+use Rattle.std.specs.Prelude.{◌≡◌, ◌≤◌, ◌<◌, ◌⊎◌, ◌↔◌, ◌+◌, ◌*◌, ◌^◌, ◌++◌, ℕ, List, [], Bool, true, false, length, All, Some, None, option_map, Result, Err, IfOk, OnErr, OnOk, ⊤}
 use Rattle.vdr_terms.specs.declared.counts.Counts.{Counts}
 use Rattle.vdr_terms.specs.Counting.{next_number}
 use Rattle.vdr_terms.specs.Rates.{is_configured}
 use Rattle.vdr_terms.specs.Records.{total}
 use Rattle.vdr_core.specs.Histories.{Event, Incident, Opening, live}
 use Rattle.vdr_core.specs.Histories.Act.{Look, Release, Save}
-use Rattle.vdr_core.specs.Runs.{base_after}
+use Rattle.vdr_core.specs.Runs.{RunStart, base_after}
 use Rattle.vdr_core.specs.Taken.{Captured}
 use Rattle.vdr_durability.specs.Readings.{AreLevel, EndsMeet}
-use Rattle.vdr_durability.specs.Commits.{items_size}
 use Rattle.vdr_config.specs.Sizes.{limits_in}
 use Rattle.vdr_outside.specs.declared.media.Media.{Ghosts as MediaTells}
 use Rattle.vdr_outside.specs.Disk.{Disk}
@@ -27,7 +26,7 @@ use Rattle.vdr_vault.specs.Vaults.{AreJudged, AreRings, IsReadable, VaultState}
 use Rattle.vdr_recorder.specs.declared.run.StartRefused.{StartRefused}
 use Rattle.vdr_recorder.specs.declared.run.StartRefused.TheVariants.{Place, Tick, Fault}
 use Rattle.vdr_run.specs.Making.{counted_of}
-use Rattle.vdr_recorder.specs.Making.{NumbersFit, numbers_of}
+use Rattle.vdr_recorder.specs.Making.{FitBehind, MakesBy, NumbersFit, numbers_of}
 use Rattle.vdr_recorder.specs.Recordings.{HasDone, HasRecorded, RecorderState}
 use Rattle.vdr_recorder.specs.Refusals.{HasStartCause}
 use Rattle.vdr_run.specs.Starts.{stamp_of}
@@ -89,6 +88,8 @@ pub record BeginsRun {T : Type 0} (old new : RecorderState) (sizes : List ℕ) (
   pub closed : OnErr result (new.is_open ≡ false)
   -- after Ok the place is small, and nothing was counted
   pub numbers : OnOk result ((new.maker.place ≤ 2 ^ 62) × ((g : ℕ) → g < 16 → next_number (counted_of new.maker g).pending ≡ 0))
+  -- after Ok it has taken no item in its run
+  pub makes : OnOk result ((start : RunStart) × MakesBy new.vault.config start [] new.maker)
   -- the configuration is as before
   pub config : new.vault.config ≡ old.vault.config
   -- each ring is its medium's
@@ -105,10 +106,10 @@ pub record WritesStart {M : Type 0} (media : MediaTells M) (failed : Bool) (old 
   -- no count of faults falls, and a fault has its cause
   pub cause : HasStartCause failed (media.faults old) (media.faults new) result
 
--- One batch may take these items: they fit it, and they are of configured groups. The run's numbers stay below 2^63.
+-- One batch may take these items: their records fit it, and they are of configured groups. The run's numbers stay below 2^63.
 pub record FitBatch (items : List Captured) (old : RecorderState) : Type 0 where
-  -- their records are no longer than the configured batch
-  pub short : items_size items ≤ old.vault.config.batch
+  -- behind what the run has taken, their records are no longer than the configured batch
+  pub short : FitBehind old.vault.config old.maker items old.vault.config.batch
   -- each one's group is configured
   pub configured : All (λ c. is_configured (limits_in old.vault.config.groups c.group) ≡ true) items
   -- the places of their records are below 2^63
@@ -125,10 +126,13 @@ pub record FitClose (rest : ℕ → Counts) (old : RecorderState) : Type 0 where
   -- and so are the numbers of each group's items
   pub numbers : (g : ℕ) → g < 16 → next_number (counted_of old.maker g).pending + total (rest g) < 2 ^ 63
 
--- The run goes on, with two records an item at most.
+-- The run goes on with these items, with two records an item at most.
 pub record GoesOnWith (items : List Captured) (old new : RecorderState) (sizes : List ℕ) : Type 0 where
   -- the run stays open
   pub stays_open : new.is_open ≡ true
+  -- where no write had failed, it has taken these items behind those before
+  pub makes : old.vault.failed ≡ false → (start : RunStart) (popped : List Captured) → MakesBy old.vault.config start popped old.maker
+      → MakesBy new.vault.config start (popped ++ items) new.maker
   -- an item takes two places at most
   pub places : new.maker.place ≤ old.maker.place + 2 * length items
   -- a group counts no more than its items

@@ -23,7 +23,7 @@ mod watch;
 mod watched;
 
 pub use law::{Accounting, law_of_chains, law_of_goes_on, law_of_playing};
-pub use making::LEAST_ITEM;
+pub use making::{LEAST_DATAGRAM, head_of};
 pub use play::Player;
 pub use recorder::{Recorder, State};
 pub use run::StartRefused;

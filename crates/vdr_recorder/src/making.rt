@@ -6,10 +6,10 @@ ghost use Rattle.vdr_terms.specs.Stamps.{IsStamp};
 ghost use Rattle.vdr_core.specs.Runs.{RunStart, base_after};
 ghost use Rattle.vdr_core.specs.Taken.{Captured as CapturedTold};
 ghost use Rattle.vdr_core.specs.Recorder.{recorder_after, begun};
-ghost use Rattle.vdr_durability.specs.Commits.{items_size};
-ghost use Rattle.vdr_run.specs.Making.{IsMaking, Makes, TakesOne, counted_of};
+ghost use Rattle.vdr_run.specs.Calls.{FitsRun};
+ghost use Rattle.vdr_run.specs.Making.{IsMaking, Makes, TakesOne, counted_of, item_told};
 ghost use Rattle.vdr_run.specs.Starts.{stamp_of, start_with};
-ghost use Rattle.vdr_recorder.specs.Making.{HasRoom, MakesBy, NumbersFit, numbers_of};
+ghost use Rattle.vdr_recorder.specs.Making.{FitBehind, HasRoom, MakesBy, NumbersFit, numbers_of};
 
 use std::alloc::{AllocError, Global};
 use vdr_config::Config;
@@ -17,14 +17,19 @@ use vdr_intake::Captured;
 use vdr_meter::Meter;
 use vdr_run::{ItemHead, Maker};
 
-/// The most bytes that an item takes of a batch besides its own: a Gap of 84, and a Datagram of 44 and the item's.
-pub const LEAST_ITEM: usize = 128;
+/// The fewest bytes of a recorded item: a Datagram has 44 besides its own, and none is shorter than the token of six that it
+/// begins with.
+pub const LEAST_DATAGRAM: usize = 50;
 
-/// A maker for this configuration, with room for the records of as many items as a batch may have, and for those of a close.
+// The fewest bytes of a record.
+const LEAST_RECORD: usize = 44;
+
+/// A maker for this configuration, with room for as many records as a batch may have, for the two of one more item, and for
+/// those of a close.
 pub(crate) fn maker_for(alloc: Global, config: &Config) -> Result<Maker, AllocError>
     ensures { IfOk result (λ maker. HasRoom config.now maker) }
 {
-    Maker::new(alloc, config.batch as usize / LEAST_ITEM)
+    Maker::new(alloc, config.batch as usize / (2 * LEAST_RECORD) + 2)
 }
 
 /// A run of this configuration begins at this place, after a record of this tick and UTC if there is one. Its Start is made.
@@ -41,6 +46,20 @@ pub(crate) fn start_run(maker: &mut Maker, config: &Config, place: u64, last: Op
     maker.start(config, Some(Meter::new(config)), place, last);
 }
 
+/// The item without its bytes.
+pub fn head_of(item: &Captured) -> ItemHead
+    ensures told { item_told result item.now.bytes ≡ item.now }
+    ensures fits { FitsRun result item.now.bytes }
+{
+    ItemHead {
+        group: item.group,
+        number: item.number,
+        received: item.received,
+        utc: item.utc,
+        missed: item.missed,
+    }
+}
+
 // Takes an item.
 fn take(maker: &mut Maker, config: &Config, item: &Captured)
     requires room { length maker.old.records.items + 2 ≤ maker.old.records.capacity }
@@ -50,20 +69,13 @@ fn take(maker: &mut Maker, config: &Config, item: &Captured)
         → IsMaking config.now start (popped ++ item.now ∷ []) before maker.new }
     ensures one { TakesOne maker.old maker.new item.now }
 {
-    let head = ItemHead {
-        group: item.group,
-        number: item.number,
-        received: item.received,
-        utc: item.utc,
-        missed: item.missed,
-    };
-    maker.take(config, head, item.bytes.as_slice());
+    maker.take(config, head_of(item), item.bytes.as_slice());
 }
 
 /// Takes items, in this order: those that the rate of their group admits are recorded.
 pub(crate) fn make(maker: &mut Maker, config: &Config, items: &[Captured])
     requires room { HasRoom config.now maker.old }
-    requires short { items_size items.now ≤ config.now.batch }
+    requires short { FitBehind config.now maker.old items.now config.now.batch }
     requires places { maker.old.place + 2 * length items.now < 2 ^ 63 }
     requires numbers { NumbersFit maker.old items.now }
     ensures makes { (start : RunStart) (popped : List CapturedTold) → MakesBy config.now start popped maker.old

@@ -90,7 +90,8 @@ impl Recorder {
 
     /// Records items in this order, those that the rate of their group admits, as one batch. Where none is admitted, nothing is called.
     ///
-    /// The items fit the configured `batch`, in bytes: each takes at most 128 and its own, a Gap of 84 and a Datagram of 44 and its bytes.
+    /// Their records fit the configured `batch`, in bytes: an item that its rate admits takes 44 and its own, and 84 more for a Gap where
+    /// its group has missed anything; one that is refused takes none. `vdr_run::Charges` tells how many the next item takes.
     ///
     /// `Fault`: a write had failed before, and nothing was called; or a write or a sync failed, and the count of faults of that
     /// medium rose.

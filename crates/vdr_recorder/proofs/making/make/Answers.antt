@@ -1,17 +1,10 @@
 use Rattle.std.proofs.Common.{arith}
-use Rattle.vdr_durability.proofs.ItemSizes.{fit_few}
-use Rattle.vdr_recorder.proofs.Batches.{makes_all, number_fits, taken_more}
+use Rattle.vdr_recorder.proofs.Batches.{makes_all, number_fits, room_left, taken_more}
 use Rattle.vdr_recorder.proofs.making.make.Goals as goal
 
 pub take-requires-clause-room : goal.take-requires-clause-room
 take-requires-clause-room c =
-    let taken = c.loop-item.invariant in
-    let few = taken.few in
-    let kept = taken.room in
-    let room = c.requires.room in
-    let test = c.loop-item-test.true in
-    let count = fit_few c.args.config.now.batch c.args.items.now c.requires.short in
-    omega (arith, few, kept, room, test, count)
+    room_left c.args.config.now c.loop-item.item-index c.args.items.now c.args.maker.now c.loop-item.maker c.loop-item.invariant c.requires.short c.requires.room
 
 pub take-requires-clause-number : goal.take-requires-clause-number
 take-requires-clause-number c within =
