@@ -47,7 +47,7 @@ use Rattle.vdr_session.specs.Feeding.{AreMissed, RestIs}
 use Rattle.vdr_session.specs.Lanes.{IsMet}
 use Rattle.vdr_session.specs.Marks.{has_fault, taken_in}
 use Rattle.vdr_session.specs.Ran.{HasRan, LaneRan}
-use Rattle.vdr_session.specs.Standing.{AreFew, Before, HasSession, IsKept, StartMeans}
+use Rattle.vdr_session.specs.Standing.{Before, HasSession, HasTaken, IsKept, StartMeans}
 use Rattle.vdr_session.proofs.Closes.{closes_session}
 use Rattle.vdr_session.proofs.Faults.{all_there, no_fault, whole_along}
 use Rattle.vdr_session.proofs.LanesRan.{first_of}
@@ -157,7 +157,7 @@ module _ {P : Type 0} (port_tells : PortTells P) {tells tells_images : Type 0} (
     lane : Lane P
     lane = first_of new (omega (arith, sixteen))
 
-    stage : (r.is_open ≡ true) × AreFew marks r
+    stage : (r.is_open ≡ true) × HasTaken marks r
     stage = k.stage.open_is ran.begun
 
     all_few : length (taken_in marks) ≤ 16 * most_items

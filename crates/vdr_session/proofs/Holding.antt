@@ -1,14 +1,11 @@
 -- What is held of each group, as one step is made after another.
 use Rattle.std.proofs.Common.{◌≡◌, ◌<◌, ◌≤◌, ◌++◌, ◌+◌, ◌-◌, ◌/◌, ℕ, zero, suc, Bool, List, [], ◌∷◌, All, Option, Some, None, IfSome, IfNone, is_some, false, length, get_or, set, replicate, refl, sym, ap, ◌∙◌, subst, append-nil, arith}
 use Rattle.std.proofs.lemmas.List.{get_or-set_same, get_or-set_other}
-use Rattle.std.proofs.lemmas.List.Sums.{sum_by-append}
 use Rattle.std.proofs.lemmas.List.Elements.{All-cons, All-nil}
 use Rattle.vdr_core.specs.Taken.{Captured, of_group}
 use Rattle.vdr_intake.specs.Ends.{Feeding, QueueId, Taking}
 use Rattle.vdr_intake.specs.Items.{Follows, IsRun, most_items}
 use Rattle.vdr_intake.proofs.Runs.{run_more}
-use Rattle.vdr_durability.specs.Commits.{item_size, items_size, least_item}
-use Rattle.vdr_durability.proofs.ItemSizes.{fit_few}
 use Rattle.vdr_desk.proofs.Lists.{no_default, at_each}
 use Rattle.vdr_session.specs.Heads.{AreHeld, NoneHeld, Steps}
 use Rattle.vdr_session.specs.Lanes.{AreMet, ArePopped, HasPopped, IsDrained, IsFront, IsMet, Pops, StayJoined, held, joined_to, popped_by}
@@ -84,26 +81,6 @@ module _ (configured : ℕ → Bool) (n : ℕ) (queues : List (Option QueueId)) 
       → Steps configured n (get_or queues n None) (get_or takers n None) taker (get_or heads n None) head (more (get_or heads n None))
   steps_there taker head more steps = subst (λ (x : Option QueueId × Option Taking × Option Captured). Steps configured n x.0 x.1 taker x.2 head (more x.2))
       (λ i. (sym its_queue i, sym its_taker i, sym its_head i)) (steps configured n met_there)
-
--- How much the held item takes of a batch, and that there is room for it.
-least_held : (head : Option Captured) → 0 < items_size (held head) → least_item ≤ items_size (held head)
-least_held None some = absurd (omega (arith, some))
-least_held (Some c) some = omega arith
-
-pub room_for : (items : List Captured) (head : Option Captured) (room left space : ℕ) → items_size items + left ≡ room → 0 < items_size (held head) → items_size (held head) ≤ left
-    → room / least_item ≤ space → length items < space
-room_for items head room left space all some fits roomy =
-    let least = least_held head some in
-    let few = fit_few (items_size items) items (omega arith) in
-    omega (arith, all, least, fits, roomy, few)
-
-pub size_more : (items more : List Captured) (head was : Option Captured) (left room size : ℕ) → items_size items + left ≡ room → more ≡ items ++ held head → head ≡ was → size ≡ items_size (held was) → size ≤ left
-    → items_size more + (left - size) ≡ room
-size_more items more head was left room size all is same sized fits =
-    let a = ap items_size is in
-    let b = sum_by-append item_size items (held head) in
-    let c = ap (λ (x : Option Captured). items_size (held x)) same in
-    omega (arith, all, a, b, c, sized, fits)
 
 module _ (n : ℕ) (takers : List (Option Taking)) (heads : List (Option Captured)) (sixteen : length takers ≡ 16) (as_many : length heads ≡ 16) (low : n < 16)
     (taker : Option Taking) (head : Option Captured) where

@@ -1,5 +1,6 @@
 pub mod Popped
 pub mod Holding
+pub mod Charged
 pub mod Seen
 pub mod Served
 pub mod Marked

@@ -11,7 +11,7 @@ use Rattle.vdr_core.specs.RunStates.{RunState, after_act, state_left}
 use Rattle.vdr_core.specs.Taken.{Captured}
 use Rattle.vdr_outside.specs.Causes.{Rose}
 use Rattle.vdr_outside.specs.Disk.{Disk}
-use Rattle.vdr_config.specs.Configuration.{Selector}
+use Rattle.vdr_config.specs.Configuration.{Configuration, Selector}
 use Rattle.vdr_control.specs.Orders.{PlainOrder}
 use Rattle.vdr_control.specs.Orders.PlainOrder.{Status, Save, Release, Incidents, Play, Evidence, Tell}
 use Rattle.vdr_control.specs.Orders.PlainOrder.{Health}
@@ -22,7 +22,7 @@ use Rattle.vdr_run.specs.Making.{counted_of}
 use Rattle.vdr_run.specs.Starts.{stamp_of}
 use Rattle.vdr_health.specs.Tallies.{KnowsRun}
 use Rattle.vdr_health.specs.declared.tallied.RunTally.{RunTally}
-use Rattle.vdr_recorder.specs.Making.{numbers_of}
+use Rattle.vdr_recorder.specs.Making.{MakesBy, numbers_of}
 use Rattle.vdr_recorder.specs.Recordings.{HasRecorded, RecorderState}
 use Rattle.vdr_recorder.specs.Watched.{DoneAndTold, IsWatched, Watched}
 use Rattle.vdr_recorder.proofs.Continuing.{has_moment}
@@ -188,6 +188,10 @@ module _ {tells tells_images : Type 0} (before : Before) (began : Opening → �
         open_is = λ is. let o = k.stage.open_is (sym (begun_none marks mark (ap (λ (b : Bool). b && is_some mark.moment) (begins_none granted rose order))) ∙ is) in (
           rest.is_open ∙ o.0,
           record {
+            makes = (
+              o.1.makes.0,
+              subst (λ (x : Configuration × List Captured × Maker). MakesBy x.0 o.1.makes.0 x.1 x.2) (λ i. (sym home.config i, sym taken i, sym rest.maker i)) o.1.makes.1,
+            );
             place = (let p = o.1.place in let m = ap (λ (x : Maker). x.place) rest.maker in let t = ap length taken in omega (arith, p, m, t));
             numbers = λ g small. (let n = o.1.numbers g small in let m = ap (λ (x : Maker). next_number (counted_of x g).pending) rest.maker in let t = ap (numbers_of g) taken in omega (arith, n, m, t));
           },

@@ -25,7 +25,7 @@ use Rattle.vdr_outside.proofs.Counts.{none_fell, none_falls_join, rose_after, su
 use Rattle.vdr_vault.specs.Calls.{SameElsewhere}
 use Rattle.vdr_vault.specs.Vaults.{AreRings, ShowsHistory}
 use Rattle.vdr_run.specs.Making.{counted_of}
-use Rattle.vdr_recorder.specs.Making.{numbers_of}
+use Rattle.vdr_recorder.specs.Making.{MakesBy, numbers_of}
 use Rattle.vdr_recorder.specs.Recordings.{HasDone, HasRecorded, Passes, RecorderState, start_of_opening}
 use Rattle.vdr_recorder.specs.Watched.{DoneAndTold, IsWatched, Tells, Watched}
 use Rattle.vdr_recorder.specs.Watched.{PlainTurn as turns}
@@ -40,7 +40,7 @@ use Rattle.vdr_session.specs.declared.mark.Mark.{Mark}
 use Rattle.vdr_session.specs.Events.{act_of, added_records, event_of, events_of, is_started, run_records}
 use Rattle.vdr_session.specs.Marks.{begins, is_begun, is_leading, misses, taken_by, taken_in}
 use Rattle.vdr_session.specs.Origins.{RoseBy, failures_in, origins_of}
-use Rattle.vdr_session.specs.Standing.{AreFew, Before, HasSession, IsAt, IsFresh, IsKept, IsTaking, MayStart, PassesSince, batch_mark, start_mark}
+use Rattle.vdr_session.specs.Standing.{Before, HasSession, HasTaken, IsAt, IsFresh, IsKept, IsTaking, MayStart, PassesSince, batch_mark, start_mark}
 use Rattle.vdr_session.proofs.Faults.{none_leads}
 use Rattle.vdr_session.proofs.Marked.{taken_more}
 use Rattle.vdr_session.proofs.Origins.{failures_once, failures_same, none_failed}
@@ -246,6 +246,7 @@ module _ {tells tells_images : Type 0} (before : Before) (began : Opening → �
         open_is = λ is. let o = k.stage.open_is (sym (begun_none marks look_mark refl) ∙ is) in (
           o.0,
           record {
+            makes = (o.1.makes.0, subst (λ (xs : List Captured). MakesBy r.vault.config o.1.makes.0 xs r.maker) (sym (taken_same_by marks look_mark refl)) o.1.makes.1);
             place = subst (λ (xs : List Captured). r.maker.place ≤ 2 ^ 62 + 2 * length xs) (sym (taken_same_by marks look_mark refl)) o.1.place;
             numbers = subst (λ (xs : List Captured). (g : ℕ) → g < 16 → next_number (counted_of r.maker g).pending ≤ numbers_of g xs) (sym (taken_same_by marks look_mark refl)) o.1.numbers;
           },
@@ -301,7 +302,8 @@ module _ {tells tells_images : Type 0} (before : Before) (began : Opening → �
 
     -- a start that called the media
     pub begin_kept : r.is_open ≡ false
-        → (after.vault.failed ≡ false → (after.is_open ≡ true) × (after.maker.place ≤ 2 ^ 62) × ((g : ℕ) → g < 16 → next_number (counted_of after.maker g).pending ≡ 0))
+        → (after.vault.failed ≡ false → (after.is_open ≡ true) × (after.maker.place ≤ 2 ^ 62) × ((g : ℕ) → g < 16 → next_number (counted_of after.maker g).pending ≡ 0)
+        × ((start : RunStart) × MakesBy after.vault.config start [] after.maker))
         → ((opening : Opening) (events : List Event) (t0 : ℕ) → tells → HasRecorded opening events t0 r old → DoneAndTold before.hears opening events t0 (Commit (begun (next_start (state_left opening events))).made []) after old new w w')
         → IsKept before began rates room sizes faults (marks ++ begin_mark ∷ []) w' after new now
     begin_kept closed opens done =
@@ -310,7 +312,7 @@ module _ {tells tells_images : Type 0} (before : Before) (began : Opening → �
         let started : is_started (marks ++ begin_mark ∷ []) ≡ true = started_more marks begin_mark ∙ ap (λ (b : Bool). b || true) none.1 in
         kept_by begin_mark w' after new now watched home (λ e. absurd (true≢false (sym e)))
         (record {
-          open_is = λ is. opened (none.0) is (cases_Bool after.vault.failed);
+          open_is = λ is. opened (none.0) idle.1 is (cases_Bool after.vault.failed);
           idle = λ is. absurd (true≢false (sym started ∙ is));
           ready = λ is. absurd (true≢false (sym started ∙ is));
           whole = λ goes. all_more marks begin_mark (k.stage.whole works) (has_moment after.vault.failed new.clock begin_mark.moment refl goes);
@@ -321,12 +323,20 @@ module _ {tells tells_images : Type 0} (before : Before) (began : Opening → �
         (subst (λ (start : RunStart). DoneAndTold before.hears opening (events_of opening marks) t0 (Commit (begun start).made []) after old new w w') (s.next works none.1) (done opening (events_of opening marks) t0 told s.has))
         refl (λ goes. works) refl works none.1 idle.1)
       where
-        opened : is_begun marks ≡ false → is_begun (marks ++ begin_mark ∷ []) ≡ true → (after.vault.failed ≡ true) ⊎ (after.vault.failed ≡ false) → (after.is_open ≡ true) × AreFew (marks ++ begin_mark ∷ []) after
-        opened none is (inl fails) = absurd (true≢false (sym is ∙ begun_none marks begin_mark (no_moment after.vault.failed new.clock fails) ∙ none))
-        opened none is (inr goes) = let o = opens goes in (o.0, record { place = (let p = o.1 in omega (arith, p)); numbers = λ g small. let n = o.2 g small in omega (arith, n) })
+        opened : is_begun marks ≡ false → taken_in marks ≡ [] → is_begun (marks ++ begin_mark ∷ []) ≡ true → (after.vault.failed ≡ true) ⊎ (after.vault.failed ≡ false) → (after.is_open ≡ true) × HasTaken (marks ++ begin_mark ∷ []) after
+        opened none idle is (inl fails) = absurd (true≢false (sym is ∙ begun_none marks begin_mark (no_moment after.vault.failed new.clock fails) ∙ none))
+        opened none idle is (inr goes) = let o = opens goes in (
+          o.0,
+          record {
+            makes = (o.3.0, subst (λ (xs : List Captured). MakesBy after.vault.config o.3.0 xs after.maker) (sym (taken_same_by marks begin_mark refl ∙ idle)) o.3.1);
+            place = (let p = o.1 in omega (arith, p));
+            numbers = λ g small. let n = o.2 g small in omega (arith, n);
+          },
+        )
 
     pub start_kept : r.is_open ≡ false → (after.is_open ≡ true) ⊎ (after.vault.failed ≡ true)
-        → (after.vault.failed ≡ false → (after.is_open ≡ true) × (after.maker.place ≤ 2 ^ 62) × ((g : ℕ) → g < 16 → next_number (counted_of after.maker g).pending ≡ 0))
+        → (after.vault.failed ≡ false → (after.is_open ≡ true) × (after.maker.place ≤ 2 ^ 62) × ((g : ℕ) → g < 16 → next_number (counted_of after.maker g).pending ≡ 0)
+        × ((start : RunStart) × MakesBy after.vault.config start [] after.maker))
         → ((opening : Opening) (events : List Event) (t0 : ℕ) → tells → HasRecorded opening events t0 r old → DoneAndTold before.hears opening events t0 (Commit (begun (next_start (state_left opening events))).made []) after old new w w')
         → IsKept before began rates room sizes faults (marks ++ start_mark r after new.clock ∷ []) w' after new now
     start_kept closed how opens done =
@@ -338,14 +348,16 @@ module _ {tells tells_images : Type 0} (before : Before) (began : Opening → �
       take_mark = record { did = Take items; moment = moment_of after.vault.failed new.clock; desk = None }
 
       -- a batch that called the media
-      pub take_kept : r.is_open ≡ true → after.is_open ≡ true → after.maker.place ≤ r.maker.place + 2 * length items
+      pub take_kept : r.is_open ≡ true → after.is_open ≡ true
+          → ((start : RunStart) (popped : List Captured) → MakesBy r.vault.config start popped r.maker → MakesBy after.vault.config start (popped ++ items) after.maker)
+          → after.maker.place ≤ r.maker.place + 2 * length items
           → ((g : ℕ) → g < 16 → next_number (counted_of after.maker g).pending ≤ next_number (counted_of r.maker g).pending + numbers_of g items)
           → ((opening : Opening) (events : List Event) (t0 : ℕ) → tells → HasRecorded opening events t0 r old
           → (records : List Record)
           × ((recorder_after (state_left opening events).start ((state_left opening events).popped ++ items)).made ≡ (recorder_in (state_left opening events)).made ++ records)
           × DoneAndTold before.hears opening events t0 (Commit records items) after old new w w')
           → IsKept before began rates room sizes faults (marks ++ take_mark ∷ []) w' after new now
-      take_kept open_was open_is place numbers done =
+      take_kept open_was open_is makes place numbers done =
           let started : is_started marks ≡ true = is_on open_was in
           let is_begun_now : is_begun marks ≡ true = begun_whole marks (k.stage.whole works) ∙ started in
           let few = (k.stage.open_is is_begun_now).1 in
@@ -355,6 +367,7 @@ module _ {tells tells_images : Type 0} (before : Before) (began : Opening → �
             open_is = λ is. (
               open_is,
               record {
+                makes = (few.makes.0, subst (λ (xs : List Captured). MakesBy after.vault.config few.makes.0 xs after.maker) (sym taken) (makes few.makes.0 (taken_in marks) few.makes.1));
                 place = (let l = ap length taken in let m = length-append (taken_in marks) items in let p = few.place in omega (arith, l, m, p, place));
                 numbers = λ g small. let n = numbers g small in let o = few.numbers g small in let e = ap (numbers_of g) taken in let a = numbers_append g (taken_in marks) items in omega (arith, n, o, e, a);
               },
@@ -376,16 +389,18 @@ module _ {tells tells_images : Type 0} (before : Before) (began : Opening → �
           (made ∙ ap (λ (rs : List Record). (recorder_after (start_of_opening opening) (taken_in marks)).made ++ rs) (sym same))
           (λ goes. is_begun_now))
 
-      pub batch_kept : r.is_open ≡ true → after.is_open ≡ true → after.maker.place ≤ r.maker.place + 2 * length items
+      pub batch_kept : r.is_open ≡ true → after.is_open ≡ true
+          → ((start : RunStart) (popped : List Captured) → MakesBy r.vault.config start popped r.maker → MakesBy after.vault.config start (popped ++ items) after.maker)
+          → after.maker.place ≤ r.maker.place + 2 * length items
           → ((g : ℕ) → g < 16 → next_number (counted_of after.maker g).pending ≤ next_number (counted_of r.maker g).pending + numbers_of g items)
           → ((opening : Opening) (events : List Event) (t0 : ℕ) → tells → HasRecorded opening events t0 r old
           → (records : List Record)
           × ((recorder_after (state_left opening events).start ((state_left opening events).popped ++ items)).made ≡ (recorder_in (state_left opening events)).made ++ records)
           × DoneAndTold before.hears opening events t0 (Commit records items) after old new w w')
           → IsKept before began rates room sizes faults (marks ++ batch_mark r.vault.failed items after.vault.failed new.clock ∷ []) w' after new now
-      batch_kept open_was open_is place numbers done =
+      batch_kept open_was open_is makes place numbers done =
           subst (λ (did : Did). IsKept before began rates room sizes faults (marks ++ record { did = did; moment = moment_of after.vault.failed new.clock; desk = None } ∷ []) w' after new now)
-          (sym (cond-false r.vault.failed Look (Take items) works)) (take_kept open_was open_is place numbers done)
+          (sym (cond-false r.vault.failed Look (Take items) works)) (take_kept open_was open_is makes place numbers done)
 
 module _ {tells tells_images : Type 0} (before : Before) (began : Opening → ℕ → Type 0) (rates : List (Option Rate)) (room : ℕ) (sizes faults : List ℕ) where
   pub fresh_kept : (marks : List Mark) (w : Watched) (r : RecorderState) (disk : Disk tells tells_images) (now : List ℕ) → IsKept before began rates room sizes faults marks w r disk now → filter is_leading marks ≡ []
@@ -396,7 +411,7 @@ module _ {tells tells_images : Type 0} (before : Before) (began : Opening → �
       → IsTaking rates room (taken_in marks) before.hears w r disk
   taking_kept marks w r disk now k is =
       let o = k.stage.open_is is in
-      record { watched = k.watched; rings = k.rings; open_is = o.0; rates_are = k.rates_are; sixteen = k.sixteen; room_is = k.room_is; place = o.1.place; numbers = o.1.numbers }
+      record { watched = k.watched; rings = k.rings; open_is = o.0; rates_are = k.rates_are; sixteen = k.sixteen; room_is = k.room_is; makes = o.1.makes; place = o.1.place; numbers = o.1.numbers }
 
   -- before any turn
   pub first_kept : (r : RecorderState) (disk : Disk tells tells_images) (now : List ℕ) → (r.vault.config.groups ≡ rates) × (r.vault.config.batch ≡ room) × (length rates ≡ 16)

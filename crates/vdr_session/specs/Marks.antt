@@ -1,9 +1,10 @@
 -- The marks of a session: what each turn at the latch did.
-use Rattle.std.specs.Prelude.{◌≡◌, ◌≤◌, ◌++◌, ℕ, Bool, true, false, List, [], ◌∷◌, flat_map, All, ◌&&◌, is_some, not, None, ◌⊎◌}
+use Rattle.std.specs.Prelude.{◌≡◌, ◌++◌, ℕ, Bool, true, false, List, [], ◌∷◌, flat_map, All, ◌&&◌, is_some, not, None, ◌⊎◌}
 use Rattle.std.specs.List.{list_any}
+use Rattle.vdr_terms.specs.Rates.{Limit}
 use Rattle.vdr_core.specs.Taken.{Captured, of_group}
 use Rattle.vdr_intake.specs.Items.{IsRun}
-use Rattle.vdr_durability.specs.Commits.{items_size}
+use Rattle.vdr_run.specs.Sizes.{FitAfter}
 use Rattle.vdr_session.specs.declared.mark.Did.{Did}
 use Rattle.vdr_session.specs.declared.mark.Did.TheVariants.{Begin, Take, Save, Release, Look, Miss}
 use Rattle.vdr_session.specs.declared.mark.Mark.{Mark}
@@ -59,10 +60,10 @@ misses (Release id) = false
 misses Look = false
 misses Miss = true
 
--- Further items may be taken in a run in which these were: whose records fit a batch of so many bytes, of configured groups, each behind
--- those of its group.
-pub record MayTake (room : ℕ) (configured : ℕ → Bool) (popped items : List Captured) : Type 0 where
-  pub short : items_size items ≤ room
+-- Further items may be taken in a run by these limits in which these were: whose records fit a batch of so many bytes, of configured groups,
+-- each behind those of its group.
+pub record MayTake (room : ℕ) (limits : ℕ → Limit) (configured : ℕ → Bool) (popped items : List Captured) : Type 0 where
+  pub short : FitAfter limits popped items room
   pub known : All (λ c. configured c.group ≡ true) (popped ++ items)
   pub runs : (g : ℕ) → IsRun g [] (of_group g (popped ++ items))
 

@@ -3,7 +3,7 @@ use Rattle.std.specs.Prelude.{◌≡◌, ◌≢◌, ◌≤◌, ◌<◌, ◌⊎�
 use Rattle.vdr_terms.specs.Counting.{next_number}
 use Rattle.vdr_core.specs.Histories.{Event, Opening, recorded}
 use Rattle.vdr_core.specs.RunStates.{next_start, state_left}
-use Rattle.vdr_core.specs.Runs.{base_after}
+use Rattle.vdr_core.specs.Runs.{RunStart, base_after}
 use Rattle.vdr_terms.specs.declared.rate.Rate.{Rate}
 use Rattle.vdr_config.specs.Configuration.{Selector}
 use Rattle.vdr_durability.specs.Keeping.{ShowsPrefix, moment_of}
@@ -14,7 +14,7 @@ use Rattle.vdr_vault.specs.Calls.{SameElsewhere}
 use Rattle.vdr_vault.specs.Vaults.{AreRings, ShowsHistory, VaultState}
 use Rattle.vdr_run.specs.Making.{counted_of}
 use Rattle.vdr_run.specs.Starts.{stamp_of}
-use Rattle.vdr_recorder.specs.Making.{numbers_of}
+use Rattle.vdr_recorder.specs.Making.{MakesBy, numbers_of}
 use Rattle.vdr_recorder.specs.Recordings.{HasRecorded, RecorderState, start_of_opening}
 use Rattle.vdr_recorder.specs.Refusals.{MayBegin}
 use Rattle.vdr_recorder.specs.Watched.{IsWatched, Tells, Watched}
@@ -26,8 +26,9 @@ use Rattle.vdr_session.specs.Events.{events_of, is_started, run_records}
 use Rattle.vdr_session.specs.Marks.{is_begun, taken_in}
 use Rattle.vdr_session.specs.Origins.{RoseBy, failures_in, origins_of}
 
--- The places and numbers of the run stay small: an item takes two places at most, and its numbers.
-pub record AreFew (marks : List Mark) (r : RecorderState) : Type 0 where
+-- The maker has taken the items of the run, and their places and numbers stay small: an item takes two places at most, and its numbers.
+pub record HasTaken (marks : List Mark) (r : RecorderState) : Type 0 where
+  pub makes : (start : RunStart) × MakesBy r.vault.config start (taken_in marks) r.maker
   pub place : r.maker.place ≤ 2 ^ 62 + 2 * length (taken_in marks)
   pub numbers : (g : ℕ) → g < 16 → next_number (counted_of r.maker g).pending ≤ numbers_of g (taken_in marks)
 
@@ -38,7 +39,7 @@ pub record MayStart (vault : VaultState) : Type 0 where
 
 -- Whether a run is open, how far it is, and that none is refused yet where none was begun.
 pub record IsAt (marks : List Mark) (r : RecorderState) : Type 0 where
-  pub open_is : is_begun marks ≡ true → (r.is_open ≡ true) × AreFew marks r
+  pub open_is : is_begun marks ≡ true → (r.is_open ≡ true) × HasTaken marks r
   pub idle : is_started marks ≡ false → (r.is_open ≡ false) × (taken_in marks ≡ [])
   pub whole : r.vault.failed ≡ false → All (λ m. m.moment ≢ None) marks
   pub ready : is_started marks ≡ false → MayStart r.vault
@@ -108,6 +109,7 @@ module _ {tells tells_images : Type 0} where
     pub rates_are : r.vault.config.groups ≡ rates
     pub sixteen : length rates ≡ 16
     pub room_is : r.vault.config.batch ≡ room
+    pub makes : (start : RunStart) × MakesBy r.vault.config start popped r.maker
     pub place : r.maker.place ≤ 2 ^ 62 + 2 * length popped
     pub numbers : (g : ℕ) → g < 16 → next_number (counted_of r.maker g).pending ≤ numbers_of g popped
 

@@ -3,7 +3,9 @@ ghost use Rattle.std.specs.Prelude.{◌≡◌, ◌≤◌, ◌<◌, ◌/◌, ◌+
 ghost use mathlib.Core.List.{IsPrefix};
 ghost use Rattle.vdr_core.specs.Taken.{Captured as CapturedTold};
 ghost use Rattle.vdr_latch.specs.Passes.{Passing};
-ghost use Rattle.vdr_durability.specs.Commits.{largest_item, least_item};
+ghost use Rattle.vdr_durability.specs.Commits.{largest_item};
+ghost use Rattle.vdr_recorder.specs.Making.{least_datagram};
+ghost use Rattle.vdr_run.specs.Charges.{Foretells};
 ghost use Rattle.vdr_intake.specs.Items.{most_items};
 ghost use Rattle.vdr_capture.specs.Lanes.{CapturesHeld, IsReadyAmong};
 ghost use Rattle.vdr_desk.specs.Desks.{HasServed, Serves};
@@ -53,8 +55,9 @@ fn run_beside<
     requires takes { (history : List Marked) (x : T) → T.leaves history x → is_begun history ≡ true → T.takes (taken_in history) x }
     requires met { AreMet T.configured queues.now takers.old }
     requires popped { ArePopped (taken_in pass.old.own) takers.old }
-    requires room { (largest_item ≤ room) × (room ≤ T.room) × (room / least_item ≤ batch.old.items.capacity) }
+    requires room { (largest_item ≤ room) × (room ≤ T.room) × (room / least_datagram ≤ batch.old.items.capacity) }
     requires empty { batch.old.items.items ≡ [] }
+    requires foretells { Foretells T.limits (taken_in pass.old.own) batch.old.charges }
     ensures captured { (i : ℕ) (d : _) → i < length lanes.old → CapturesHeld P.Port turns (slice_index_or lanes.old i d) (slice_index_or lanes.new i d) }
     ensures pass { (pass.new.latch ≡ pass.old.latch) × (pass.new.parts ≡ pass.old.parts) × (pass.new.leads ≡ true) × (is_begun pass.new.own ≡ true) }
     ensures seen { IsPrefix pass.old.seen pass.new.seen }
@@ -62,8 +65,9 @@ fn run_beside<
     ensures popped { (lost : List CapturedTold) × ArePopped (taken_in pass.new.own ++ lost) takers.new × (result ≡ true → lost ≡ []) }
     ensures fails { result ≡ false → has_fault pass.new.seen ≡ true }
     ensures joined { StayJoined takers.old takers.new }
-    ensures room { room / least_item ≤ batch.new.items.capacity }
+    ensures room { room / least_datagram ≤ batch.new.items.capacity }
     ensures empty { batch.new.items.items ≡ [] }
+    ensures foretells { result ≡ true → Foretells T.limits (taken_in pass.new.own) batch.new.charges }
     ensures each { (i : ℕ) (d : _) → i < length desks.old → Serves L.Link (T.answers i) turns (slice_index_or desks.old i d) (slice_index_or desks.new i d) }
     ensures as_many { length desks.new ≡ length desks.old }
 {
@@ -78,8 +82,9 @@ fn run_beside<
             requires takes { (history : List Marked) (x : T) → T.leaves history x → is_begun history ≡ true → T.takes (taken_in history) x }
             requires met { AreMet T.configured queues.now takers.now }
             requires popped { ArePopped (taken_in pass.now.own) takers.now }
-            requires room { (largest_item ≤ room) × (room ≤ T.room) × (room / least_item ≤ batch.now.items.capacity) }
+            requires room { (largest_item ≤ room) × (room ≤ T.room) × (room / least_datagram ≤ batch.now.items.capacity) }
             requires empty { batch.now.items.items ≡ [] }
+            requires foretells { Foretells T.limits (taken_in pass.now.own) batch.now.charges }
             ensures captured { (i : ℕ) (d : _) → i < length lanes.entry.now → CapturesHeld P.Port turns (slice_index_or lanes.entry.now i d) (slice_index_or lanes.exit.now i d) }
             ensures pass { (pass.exit.now.latch ≡ pass.entry.now.latch) × (pass.exit.now.parts ≡ pass.entry.now.parts) × (pass.exit.now.leads ≡ true) × (is_begun pass.exit.now.own ≡ true) }
             ensures seen { IsPrefix pass.entry.now.seen pass.exit.now.seen }
@@ -87,8 +92,9 @@ fn run_beside<
             ensures popped { (lost : List CapturedTold) × ArePopped (taken_in pass.exit.now.own ++ lost) takers.exit.now × (result ≡ true → lost ≡ []) }
             ensures fails { result ≡ false → has_fault pass.exit.now.seen ≡ true }
             ensures joined { StayJoined takers.entry.now takers.exit.now }
-            ensures room { room / least_item ≤ batch.exit.now.items.capacity }
+            ensures room { room / least_datagram ≤ batch.exit.now.items.capacity }
             ensures empty { batch.exit.now.items.items ≡ [] }
+            ensures foretells { result ≡ true → Foretells T.limits (taken_in pass.exit.now.own) batch.exit.now.charges }
         { capture_and_record(rt, latch, pass, lanes, turns, queues, takers, batch, room) },
         &mut ||
             requires held { (i : ℕ) (d : _) → i < length desks.now → (p : Passing Marked) × ((slice_index_or desks.now i d).pass ≡ Some p) × (p.latch ≡ latch.now) × (p.leads ≡ false) }
@@ -128,8 +134,9 @@ pub(crate) fn record_and_serve<
     requires takes { (history : List Marked) (x : T) → T.leaves history x → is_begun history ≡ true → T.takes (taken_in history) x }
     requires met { AreMet T.configured queues.now takers.old }
     requires popped { ArePopped (taken_in pass.old.own) takers.old }
-    requires room { (largest_item ≤ room) × (room ≤ T.room) × (room / least_item ≤ batch.old.items.capacity) }
+    requires room { (largest_item ≤ room) × (room ≤ T.room) × (room / least_datagram ≤ batch.old.items.capacity) }
     requires empty { batch.old.items.items ≡ [] }
+    requires foretells { Foretells T.limits (taken_in pass.old.own) batch.old.charges }
     ensures captured { (i : ℕ) (d : _) → i < length lanes.old → CapturesHeld P.Port turns (slice_index_or lanes.old i d) (slice_index_or lanes.new i d) }
     ensures pass { (pass.new.latch ≡ pass.old.latch) × (pass.new.parts ≡ pass.old.parts) × (pass.new.leads ≡ true) × (is_begun pass.new.own ≡ true) }
     ensures seen { IsPrefix pass.old.seen pass.new.seen }
@@ -137,8 +144,9 @@ pub(crate) fn record_and_serve<
     ensures popped { (lost : List CapturedTold) × ArePopped (taken_in pass.new.own ++ lost) takers.new × (result ≡ true → lost ≡ []) }
     ensures fails { result ≡ false → has_fault pass.new.seen ≡ true }
     ensures joined { StayJoined takers.old takers.new }
-    ensures room { room / least_item ≤ batch.new.items.capacity }
+    ensures room { room / least_datagram ≤ batch.new.items.capacity }
     ensures empty { batch.new.items.items ≡ [] }
+    ensures foretells { result ≡ true → Foretells T.limits (taken_in pass.new.own) batch.new.charges }
     ensures desks { (i : ℕ) (d : _) → i < length desks.old → HasServed L.Link (T.answers i) turns 0 pass.new.seen (slice_index_or desks.old i d) (slice_index_or desks.new i d) × ((slice_index_or desks.new i d).pass ≡ None) }
     ensures as_many { length desks.new ≡ length desks.old }
 {

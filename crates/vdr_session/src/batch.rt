@@ -4,11 +4,14 @@ ghost use Rattle.std.specs.Prelude.{◌≡◌, ℕ, Bool, List, []};
 use crate::records::{Began, Records};
 use vdr_intake::CapturedBuffer;
 use vdr_latch::Job;
+use vdr_run::Charges;
 
-/// The items that were popped and are not yet recorded, and whether the media still work.
+/// The items that were popped and are not yet recorded, what tells how many bytes the next one's records take, and whether the media still
+/// work.
 #[derive(Drop)]
 pub(crate) struct Batch {
     pub items: CapturedBuffer,
+    pub charges: Charges,
     pub works: bool,
 }
 
@@ -16,11 +19,11 @@ impl<T: Records> Job<T> for Batch {
     ghost use Rattle.vdr_core.specs.Taken.{Captured as CapturedTold};
     ghost use Rattle.vdr_session.specs.Marks.{IsMarkOf, MayTake};
 
-    ghost asks = { λ j x. (popped : List CapturedTold) × T.takes popped x × MayTake T.room T.configured popped j.items.items };
+    ghost asks = { λ j x. (popped : List CapturedTold) × T.takes popped x × MayTake T.room T.limits T.configured popped j.items.items };
 
     ghost event = { λ j x _ y. T.batch x j.items.items y };
 
-    ghost relates = { λ j x l y. IsMarkOf j.items.items l.works (T.batch x j.items.items y) × (l.items ≡ j.items) };
+    ghost relates = { λ j x l y. IsMarkOf j.items.items l.works (T.batch x j.items.items y) × (l.items ≡ j.items) × (l.charges ≡ j.charges) };
 
     fn work(&mut self, value: &mut T) {
         self.works = value.take_batch(self.items.as_slice());

@@ -10,7 +10,9 @@ ghost use Rattle.vdr_vault.specs.Vaults.{AreRings};
 ghost use Rattle.vdr_recorder.specs.Recordings.{HasRecorded};
 ghost use Rattle.vdr_recorder.specs.Watched.{IsWatched};
 ghost use Rattle.vdr_outside.specs.Disk.{Image};
-ghost use Rattle.vdr_durability.specs.Commits.{largest_item, least_item};
+ghost use Rattle.vdr_durability.specs.Commits.{largest_item};
+ghost use Rattle.vdr_recorder.specs.Making.{least_datagram};
+ghost use Rattle.vdr_run.specs.Charges.{Foretells};
 ghost use Rattle.vdr_intake.specs.Items.{most_items};
 ghost use Rattle.vdr_session.specs.Answering.{AnswersMark};
 ghost use Rattle.vdr_session.specs.Closed.{DesksRan};
@@ -80,8 +82,9 @@ pub(crate) fn run_lent<
     requires desks { length desks.old < 2 ^ 32 }
     requires sixteen { length lanes.old ≡ 16 }
     requires ready { (g : ℕ) (d : _) → g < 16 → LaneIsReady (λ g. is_configured (limits_in O.rates g)) g (get_or memory.old.queues g None) (get_or memory.old.takers g None) (slice_index_or lanes.old g d) }
-    requires room { (largest_item ≤ room) × (room ≤ O.room) × (room / least_item ≤ memory.old.batch.items.capacity) }
+    requires room { (largest_item ≤ room) × (room ≤ O.room) × (room / least_datagram ≤ memory.old.batch.items.capacity) }
     requires empty { memory.old.batch.items.items ≡ [] }
+    requires foretells { Foretells (limits_in O.rates) [] memory.old.batch.charges }
     ensures same { result.0.ghost_name ≡ media.entry.ghost_name }
     ensures same_watch { result.1.ghost_name ≡ watch.entry.ghost_name }
     ensures ended { IfSome result.2 (λ e. HasEnded P.Port turns (λ g. is_configured (limits_in O.rates g)) memory.old.queues memory.old.takers memory.new.takers lanes.old lanes.new

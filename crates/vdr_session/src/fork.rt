@@ -2,7 +2,9 @@
 ghost use Rattle.std.specs.Prelude.{◌≡◌, ◌≤◌, ◌<◌, ◌/◌, ◌++◌, ℕ, List, [], All, true, false, slice_index_or, length};
 ghost use mathlib.Core.List.{IsPrefix};
 ghost use Rattle.vdr_core.specs.Taken.{Captured as CapturedTold};
-ghost use Rattle.vdr_durability.specs.Commits.{largest_item, least_item};
+ghost use Rattle.vdr_durability.specs.Commits.{largest_item};
+ghost use Rattle.vdr_recorder.specs.Making.{least_datagram};
+ghost use Rattle.vdr_run.specs.Charges.{Foretells};
 ghost use Rattle.vdr_intake.specs.Items.{most_items};
 ghost use Rattle.vdr_capture.specs.Lanes.{CapturesHeld, IsReadyAmong};
 ghost use Rattle.vdr_session.specs.declared.mark.Mark.{Mark as Marked};
@@ -57,8 +59,9 @@ pub(crate) fn capture_and_record<T: Records + Send, P: Port + Send, R: Threads +
     requires takes { (history : List Marked) (x : T) → T.leaves history x → is_begun history ≡ true → T.takes (taken_in history) x }
     requires met { AreMet T.configured queues.now takers.old }
     requires popped { ArePopped (taken_in pass.old.own) takers.old }
-    requires room { (largest_item ≤ room) × (room ≤ T.room) × (room / least_item ≤ batch.old.items.capacity) }
+    requires room { (largest_item ≤ room) × (room ≤ T.room) × (room / least_datagram ≤ batch.old.items.capacity) }
     requires empty { batch.old.items.items ≡ [] }
+    requires foretells { Foretells T.limits (taken_in pass.old.own) batch.old.charges }
     ensures captured { (i : ℕ) (d : _) → i < length lanes.old → CapturesHeld P.Port turns (slice_index_or lanes.old i d) (slice_index_or lanes.new i d) }
     ensures pass { (pass.new.latch ≡ pass.old.latch) × (pass.new.parts ≡ pass.old.parts) × (pass.new.leads ≡ true) × (is_begun pass.new.own ≡ true) }
     ensures seen { IsPrefix pass.old.seen pass.new.seen }
@@ -66,8 +69,9 @@ pub(crate) fn capture_and_record<T: Records + Send, P: Port + Send, R: Threads +
     ensures popped { (lost : List CapturedTold) × ArePopped (taken_in pass.new.own ++ lost) takers.new × (result ≡ true → lost ≡ []) }
     ensures fails { result ≡ false → has_fault pass.new.seen ≡ true }
     ensures joined { StayJoined takers.old takers.new }
-    ensures room { room / least_item ≤ batch.new.items.capacity }
+    ensures room { room / least_datagram ≤ batch.new.items.capacity }
     ensures empty { batch.new.items.items ≡ [] }
+    ensures foretells { result ≡ true → Foretells T.limits (taken_in pass.new.own) batch.new.charges }
 {
     let done = Done::new();
     let flag = &done;
@@ -81,16 +85,18 @@ pub(crate) fn capture_and_record<T: Records + Send, P: Port + Send, R: Threads +
             requires takes { (history : List Marked) (x : T) → T.leaves history x → is_begun history ≡ true → T.takes (taken_in history) x }
             requires met { AreMet T.configured queues.now takers.now }
             requires popped { ArePopped (taken_in pass.now.own) takers.now }
-            requires room { (largest_item ≤ room) × (room ≤ T.room) × (room / least_item ≤ batch.now.items.capacity) }
+            requires room { (largest_item ≤ room) × (room ≤ T.room) × (room / least_datagram ≤ batch.now.items.capacity) }
             requires empty { batch.now.items.items ≡ [] }
+            requires foretells { Foretells T.limits (taken_in pass.now.own) batch.now.charges }
             ensures pass { (pass.exit.now.latch ≡ pass.entry.now.latch) × (pass.exit.now.parts ≡ pass.entry.now.parts) × (pass.exit.now.leads ≡ true) × (is_begun pass.exit.now.own ≡ true) }
             ensures seen { IsPrefix pass.entry.now.seen pass.exit.now.seen }
             ensures met { AreMet T.configured queues.entry.now takers.exit.now }
             ensures popped { (lost : List CapturedTold) × ArePopped (taken_in pass.exit.now.own ++ lost) takers.exit.now × (result ≡ true → lost ≡ []) }
             ensures fails { result ≡ false → has_fault pass.exit.now.seen ≡ true }
             ensures joined { StayJoined takers.entry.now takers.exit.now }
-            ensures room { room / least_item ≤ batch.exit.now.items.capacity }
+            ensures room { room / least_datagram ≤ batch.exit.now.items.capacity }
             ensures empty { batch.exit.now.items.items ≡ [] }
+            ensures foretells { result ≡ true → Foretells T.limits (taken_in pass.exit.now.own) batch.exit.now.charges }
         { record_queued(rt, latch, pass, queues, takers, batch, room, flag) },
         &mut ||
             requires turns { turns ≤ most_items }

@@ -2,15 +2,20 @@
 //
 // An item counts to the second of the greatest `received` before it. With one queue emptied after another, items of
 // later groups came too late for their second.
-ghost use Rattle.std.specs.Prelude.{◌≡◌, ◌≤◌, ◌<◌, ◌+◌, ◌/◌, ◌++◌, ℕ, Bool, List, [], true, None, Some, IfSome, get_or, length};
+ghost use Rattle.std.specs.Prelude.{◌≡◌, ◌≤◌, ◌<◌, ◌/◌, ◌++◌, ℕ, Bool, List, [], true, IfSome, length};
+ghost use Rattle.vdr_terms.specs.Rates.{Limit};
 ghost use Rattle.vdr_core.specs.Taken.{Captured as CapturedTold};
-ghost use Rattle.vdr_durability.specs.Commits.{items_size, least_item};
-ghost use Rattle.vdr_session.specs.Heads.{AreHeld, IsOldest, NoneHeld, received_of as received};
-ghost use Rattle.vdr_session.specs.Lanes.{AreDrained, AreMet, StayJoined, held};
+ghost use Rattle.vdr_recorder.specs.Making.{least_datagram};
+ghost use Rattle.vdr_run.specs.Charges.{Foretells};
+ghost use Rattle.vdr_run.specs.Sizes.{FitAfter};
+ghost use Rattle.vdr_session.specs.Heads.{AreHeld, IsFilled, IsNext, IsOldest, NoneHeld, received_of as received};
+ghost use Rattle.vdr_session.specs.Lanes.{AreDrained, AreMet, StayJoined};
 
-use crate::popping::{hold, size_of, take};
+use crate::charging::{charge, is_full};
+use crate::popping::{hold, take};
 use std::sync::Wait;
 use vdr_intake::{Captured, CapturedBuffer, Intake, Taker};
+use vdr_run::Charges;
 
 /// Holds the oldest item of each queue of which none is held. Says whether none is held then: each queue was found empty.
 pub(crate) fn hold_all<R: Wait>(
@@ -59,17 +64,27 @@ fn oldest(heads: &[Option<Captured>; 16]) -> usize
     oldest
 }
 
-// The group whose held item the batch takes next. None where it has more than so many bytes, or none is held.
-fn next_of(heads: &[Option<Captured>; 16], left: usize) -> Option<usize>
-    ensures { IfSome result (λ g. IsOldest heads.now g × (0 < items_size (held (get_or heads.now g None))) × (items_size (held (get_or heads.now g None)) ≤ left)) }
+// The group whose held item the batch takes next, and how many bytes its records take: they are charged. None where the batch is full, nothing
+// is held, or the records don't fit so many bytes.
+fn next_of(
+    heads: &[Option<Captured>; 16],
+    items: &CapturedBuffer,
+    charges: &mut Charges,
+    room: usize,
+    left: usize,
+) -> Option<(usize, usize)>
+    ensures next { IfSome result (λ next. IsOldest heads.now next.0 × (length items.now.items < room / least_datagram)) }
+    ensures charges { (limits : ℕ → Limit) (popped : List CapturedTold) → Foretells limits popped charges.old
+        → IsNext limits popped heads.now left (room / least_datagram ≤ length items.now.items) charges.new result }
 {
     let group = oldest(heads);
-    let size = size_of(&heads[group]);
-    if 0 < size && size <= left {
-        Some(group)
-    } else {
-        None
+    if is_full(items, room) {
+        return None;
     }
+    let Some(size) = charge(&heads[group], charges, left) else {
+        return None;
+    };
+    Some((group, size))
 }
 
 /// Takes what is held and queued into an empty batch, in the order in which it was received, as far as its records fit so many
@@ -79,31 +94,35 @@ pub(crate) fn fill<R: Wait>(
     queues: &[Option<Intake>; 16],
     takers: &mut [Option<Taker>; 16],
     heads: &mut [Option<Captured>; 16],
-    batch: &mut CapturedBuffer,
+    items: &mut CapturedBuffer,
+    charges: &mut Charges,
     room: usize,
 )
     requires met { (configured : ℕ → Bool) × AreMet configured queues.now takers.old }
-    requires empty { batch.old.items ≡ [] }
-    requires space { room / least_item ≤ batch.old.capacity }
+    requires empty { items.old.items ≡ [] }
+    requires space { room / least_datagram ≤ items.old.capacity }
+    requires foretells { (limits : ℕ → Limit) × (popped : List CapturedTold) × Foretells limits popped charges.old }
     ensures met { (configured : ℕ → Bool) → AreMet configured queues.now takers.old → AreMet configured queues.now takers.new }
-    ensures held { (items : List CapturedTold) → AreHeld items heads.old takers.old → AreHeld (items ++ batch.new.items) heads.new takers.new }
+    ensures held { (before : List CapturedTold) → AreHeld before heads.old takers.old → AreHeld (before ++ items.new.items) heads.new takers.new }
     ensures joined { StayJoined takers.old takers.new }
-    ensures fits { items_size batch.new.items ≤ room }
-    ensures space { room / least_item ≤ batch.new.capacity }
+    ensures foretells { (limits : ℕ → Limit) (popped : List CapturedTold) → Foretells limits popped charges.old → Foretells limits (popped ++ items.new.items) charges.new }
+    ensures fits { (limits : ℕ → Limit) (popped : List CapturedTold) → Foretells limits popped charges.old → FitAfter limits popped items.new.items room }
+    ensures full { (limits : ℕ → Limit) (popped : List CapturedTold) → Foretells limits popped charges.old → IsFilled limits popped items.new.items heads.new room }
+    ensures space { room / least_datagram ≤ items.new.capacity }
     ensures sixteen { (length takers.new ≡ 16) × (length heads.new ≡ 16) }
 {
     let mut left = room;
     loop {
-        let Some(group) = next_of(heads, left) else {
+        let Some((group, size)) = next_of(heads, items, charges, room, left) else {
             return;
         };
-        left -= size_of(&heads[group]);
+        left -= size;
         take(
             rt,
             &queues[group],
             &mut takers[group],
             &mut heads[group],
-            batch,
+            items,
         );
     }
 }

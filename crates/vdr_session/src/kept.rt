@@ -123,6 +123,8 @@ impl<'a, 'b, M: Media, W: Watch<M>, O: Lent> Records for Kept<'a, 'b, M, W, O> {
 
     ghost room = { O.room };
 
+    ghost limits = { limits_in O.rates };
+
     ghost configured = { λ g. is_configured (limits_in O.rates g) };
 
     ghost takes = { λ popped k. IsTaking O.rates O.room popped W.hears (W.seen k.watch.now) k.recorder (M.disk k.media.now) };

@@ -7,7 +7,9 @@ ghost use Rattle.vdr_vault.specs.Vaults.{AreRings};
 ghost use Rattle.vdr_recorder.specs.Recordings.{HasRecorded};
 ghost use Rattle.vdr_recorder.specs.Watched.{IsWatched};
 ghost use Rattle.vdr_outside.specs.Disk.{Image};
-ghost use Rattle.vdr_durability.specs.Commits.{largest_item, least_item};
+ghost use Rattle.vdr_durability.specs.Commits.{largest_item};
+ghost use Rattle.vdr_recorder.specs.Making.{least_datagram};
+ghost use Rattle.vdr_run.specs.Charges.{Foretells};
 ghost use Rattle.vdr_intake.specs.Items.{most_items};
 ghost use Rattle.vdr_session.specs.declared.mark.Mark.{Mark as Marked};
 ghost use Rattle.vdr_session.specs.Answering.{AnswersMark};
@@ -80,8 +82,9 @@ pub(crate) fn record_lent<
     requires desks { length desks.old < 2 ^ 32 }
     requires sixteen { length lanes.old ≡ 16 }
     requires ready { (g : ℕ) (d : _) → g < 16 → LaneIsReady (λ g. is_configured (limits_in O.rates g)) g (get_or queues.now g None) (get_or takers.old g None) (slice_index_or lanes.old g d) }
-    requires room { (largest_item ≤ room) × (room ≤ O.room) × (room / least_item ≤ batch.old.items.capacity) }
+    requires room { (largest_item ≤ room) × (room ≤ O.room) × (room / least_datagram ≤ batch.old.items.capacity) }
     requires empty { batch.old.items.items ≡ [] }
+    requires foretells { Foretells (limits_in O.rates) [] batch.old.charges }
     ensures same { result.0.ghost_name ≡ media.entry.ghost_name }
     ensures same_watch { result.1.ghost_name ≡ watch.entry.ghost_name }
     ensures closed { IfSome result.2 (λ r. (marks : List Marked)

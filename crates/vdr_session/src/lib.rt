@@ -4,6 +4,7 @@
 mod answering;
 mod attending;
 mod batch;
+mod charging;
 mod done;
 mod ending;
 mod fork;

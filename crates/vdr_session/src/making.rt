@@ -1,6 +1,6 @@
 // The memory of a session and its threads, before it begins.
 ghost use Rattle.std.specs.Prelude.{◌≡◌, ◌≤◌, ◌<◌, ◌/◌, ℕ, [], None, OnOk, IfOk, length, replicate, get_or, slice_index_or, false};
-ghost use Rattle.vdr_durability.specs.Commits.{least_item};
+ghost use Rattle.vdr_recorder.specs.Making.{least_datagram};
 ghost use Rattle.vdr_session.specs.Ran.{IsSetUp, LaneIsReady};
 
 use crate::batch::Batch;
@@ -12,7 +12,8 @@ use std::thread::Threads;
 use vdr_capture::Lane;
 use vdr_gap::Tally;
 use vdr_intake::{CapturedBuffer, Intake, NoMemory, Taker};
-use vdr_recorder::LEAST_ITEM;
+use vdr_recorder::LEAST_DATAGRAM;
+use vdr_run::Charges;
 
 // Sets the lane of a group anew, with a queue of its own where the group is configured.
 fn set_up_one<P>(
@@ -93,12 +94,13 @@ pub(crate) struct Memory {
 }
 
 impl Memory {
-    /// Takes the memory, sets all lanes anew, and asks the host for the threads of a session with so many desks: one that refuses
-    /// them has no room for it, as one without memory.
+    /// Takes the memory, for batches that are charged by these, sets all lanes anew, and asks the host for the threads of a session with so
+    /// many desks: one that refuses them has no room for it, as one without memory.
     pub fn new<P, R: Threads + Wait + Sync>(
         rt: &R,
         alloc: Global,
         plan: &Plan,
+        charges: Charges,
         lanes: &mut [Lane<P>],
         desks: usize,
     ) -> Result<Memory, NoMemory>
@@ -108,7 +110,7 @@ impl Memory {
         ensures set_up { IfOk result (λ m. (g : ℕ) (d : _) → g < 16
             → IsSetUp (get_or plan.now.configured g false) g plan.now.capacity (get_or m.queues g None) (get_or m.takers g None) (slice_index_or lanes.old g d) (slice_index_or lanes.new g d)) }
         ensures same { (g : ℕ) (d : _) → g < 16 → (slice_index_or lanes.new g d).port ≡ (slice_index_or lanes.old g d).port }
-        ensures batch { IfOk result (λ m. (m.batch.items.items ≡ []) × (plan.now.room / least_item ≤ m.batch.items.capacity)) }
+        ensures batch { IfOk result (λ m. (m.batch.items.items ≡ []) × (plan.now.room / least_datagram ≤ m.batch.items.capacity) × (m.batch.charges ≡ charges)) }
         ensures sixteen { IfOk result (λ m. (length m.queues ≡ 16) × (length m.takers ≡ 16)) }
     {
         let mut queues = none();
@@ -121,7 +123,7 @@ impl Memory {
             &mut queues,
             &mut takers,
         )?;
-        let Ok(items) = CapturedBuffer::with_capacity(alloc, plan.room / LEAST_ITEM) else {
+        let Ok(items) = CapturedBuffer::with_capacity(alloc, plan.room / LEAST_DATAGRAM) else {
             return Err(NoMemory);
         };
         if !grants_threads(rt, alloc, desks)? {
@@ -130,7 +132,11 @@ impl Memory {
         Ok(Memory {
             queues,
             takers,
-            batch: Batch { items, works: true },
+            batch: Batch {
+                items,
+                charges,
+                works: true,
+            },
         })
     }
 }

@@ -1,13 +1,11 @@
 // Popping the queue of one group.
 ghost use Rattle.std.specs.Prelude.{◌≡◌, ◌≤◌, ◌<◌, ◌∷◌, ◌++◌, ℕ, Bool, List, [], true, None, Some, length};
-ghost use Rattle.vdr_durability.specs.Commits.{items_size};
 ghost use Rattle.vdr_intake.specs.Items.{IsRun};
 ghost use Rattle.vdr_session.specs.Heads.{Steps};
 ghost use Rattle.vdr_session.specs.Lanes.{AllPopped, HasPopped, IsDrained, IsFront, IsMet, Pops, held};
 
 use std::sync::Wait;
 use vdr_intake::{Captured, CapturedBuffer, Intake, Taker};
-use vdr_recorder::LEAST_ITEM;
 
 // Adds a copy of the held item, if there is one, to a batch that has room for it.
 fn push_held(batch: &mut CapturedBuffer, head: &Option<Captured>)
@@ -18,16 +16,6 @@ fn push_held(batch: &mut CapturedBuffer, head: &Option<Captured>)
     match head {
         Some(item) => batch.push_copy(item),
         None => {}
-    }
-}
-
-/// How many bytes of a batch the held item takes at most: those of a Gap and of its Datagram.
-pub(crate) fn size_of(head: &Option<Captured>) -> usize
-    ensures { result ≡ items_size (held head.now) }
-{
-    match head {
-        Some(item) => LEAST_ITEM + item.bytes.len(),
-        None => 0,
     }
 }
 

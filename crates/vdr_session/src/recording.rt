@@ -26,6 +26,7 @@ use vdr_desk::{Desk, failed_link};
 use vdr_outside::{Link, Media, Port};
 use vdr_recorder::{Recorder, Watch};
 use vdr_reply::Gauge;
+use vdr_run::Charges;
 
 // There was no memory, and nothing was recorded.
 fn without_memory() -> SessionEnd
@@ -109,7 +110,8 @@ fn record_and_reply<
     let plan = Plan::new(recorder.config());
     let first = recorder.status().records;
     reset(desks);
-    let Ok(mut memory) = Memory::new(rt, alloc, &plan, lanes, desks.len()) else {
+    let charges = Charges::new(recorder.config());
+    let Ok(mut memory) = Memory::new(rt, alloc, &plan, charges, lanes, desks.len()) else {
         return without_memory();
     };
     let (media, watch, ended) = run_lent::<M, W, P, L, Brand, R>(

@@ -2,7 +2,9 @@
 ghost use Rattle.std.specs.Prelude.{◌≡◌, ◌≤◌, ◌<◌, ◌/◌, ◌++◌, ℕ, List, [], true, false, length};
 ghost use mathlib.Core.List.{IsPrefix};
 ghost use Rattle.vdr_core.specs.Taken.{Captured as CapturedTold};
-ghost use Rattle.vdr_durability.specs.Commits.{largest_item, least_item};
+ghost use Rattle.vdr_durability.specs.Commits.{largest_item};
+ghost use Rattle.vdr_recorder.specs.Making.{least_datagram};
+ghost use Rattle.vdr_run.specs.Charges.{Foretells};
 ghost use Rattle.vdr_session.specs.declared.mark.Mark.{Mark as Marked};
 ghost use Rattle.vdr_session.specs.Lanes.{AreDrained, AreMet, ArePopped, StayJoined};
 ghost use Rattle.vdr_session.specs.Marks.{is_begun, is_leading, has_fault, taken_in};
@@ -38,8 +40,9 @@ pub(crate) fn record_queued<T: Records, R: Wait>(
     requires takes { (history : List Marked) (x : T) → T.leaves history x → is_begun history ≡ true → T.takes (taken_in history) x }
     requires met { AreMet T.configured queues.now takers.old }
     requires popped { ArePopped (taken_in pass.old.own) takers.old }
-    requires room { (largest_item ≤ room) × (room ≤ T.room) × (room / least_item ≤ batch.old.items.capacity) }
+    requires room { (largest_item ≤ room) × (room ≤ T.room) × (room / least_datagram ≤ batch.old.items.capacity) }
     requires empty { batch.old.items.items ≡ [] }
+    requires foretells { Foretells T.limits (taken_in pass.old.own) batch.old.charges }
     ensures pass { (pass.new.latch ≡ pass.old.latch) × (pass.new.parts ≡ pass.old.parts) × (pass.new.leads ≡ true) × (is_begun pass.new.own ≡ true) }
     ensures seen { IsPrefix pass.old.seen pass.new.seen }
     ensures met { AreMet T.configured queues.now takers.new }
@@ -48,8 +51,9 @@ pub(crate) fn record_queued<T: Records, R: Wait>(
     ensures fails { result ≡ false → has_fault pass.new.seen ≡ true }
     ensures drained { result ≡ true → AreDrained takers.new }
     ensures sixteen { length takers.new ≡ 16 }
-    ensures room { room / least_item ≤ batch.new.items.capacity }
+    ensures room { room / least_datagram ≤ batch.new.items.capacity }
     ensures empty { batch.new.items.items ≡ [] }
+    ensures foretells { result ≡ true → Foretells T.limits (taken_in pass.new.own) batch.new.charges }
 {
     let mut heads = none();
     for _ in rt.forever() {
@@ -60,7 +64,15 @@ pub(crate) fn record_queued<T: Records, R: Wait>(
             }
             done.sleep(rt);
         } else {
-            fill(rt, queues, takers, &mut heads, &mut batch.items, room);
+            fill(
+                rt,
+                queues,
+                takers,
+                &mut heads,
+                &mut batch.items,
+                &mut batch.charges,
+                room,
+            );
             latch.turn::<Batch, R>(rt, pass, batch);
             batch.items.clear();
             if !batch.works {

@@ -1,5 +1,6 @@
 // What a value under the latch is to the recorder's loop.
 ghost use Rattle.std.specs.Prelude.{◌≡◌, ◌⊎◌, ◌++◌, ◌∷◌, ℕ, Bool, List, [], true, false};
+ghost use Rattle.vdr_terms.specs.Rates.{Limit};
 ghost use Rattle.vdr_core.specs.Taken.{Captured as CapturedTold};
 ghost use Rattle.vdr_session.specs.declared.mark.Mark.{Mark as Marked};
 ghost use Rattle.vdr_session.specs.declared.records.Began.{Began as HowBegun};
@@ -29,6 +30,9 @@ pub(crate) trait Records: Stepped<Event = Mark> {
     /// How many bytes a batch may have.
     ghost room: { ℕ };
 
+    /// The limits of the run's groups.
+    ghost limits: { ℕ → Limit };
+
     /// Which groups are configured.
     ghost configured: { ℕ → Bool };
 
@@ -56,7 +60,7 @@ pub(crate) trait Records: Stepped<Event = Mark> {
 
     /// Records the items as one batch. False where the media have failed by then.
     fn take_batch(&mut self, items: &[Captured]) -> bool
-        requires { (popped : List CapturedTold) × takes popped self.old × MayTake room configured popped items.now }
+        requires { (popped : List CapturedTold) × takes popped self.old × MayTake room limits configured popped items.now }
         ensures leaves { (history : List Marked) → Self.leaves history self.old → Self.leaves (history ++ batch self.old items.now self.new ∷ []) self.new }
         ensures mark { IsMarkOf items.now result (batch self.old items.now self.new) };
 }

@@ -3,7 +3,9 @@ ghost use Rattle.std.specs.Prelude.{◌≡◌, ◌≤◌, ◌<◌, ◌/◌, ◌+
 ghost use mathlib.Core.List.{IsPrefix};
 ghost use Rattle.vdr_desk.specs.Desks.{HasServed};
 ghost use Rattle.vdr_core.specs.Taken.{Captured as CapturedTold};
-ghost use Rattle.vdr_durability.specs.Commits.{largest_item, least_item};
+ghost use Rattle.vdr_durability.specs.Commits.{largest_item};
+ghost use Rattle.vdr_recorder.specs.Making.{least_datagram};
+ghost use Rattle.vdr_run.specs.Charges.{Foretells};
 ghost use Rattle.vdr_intake.specs.Items.{most_items};
 ghost use Rattle.vdr_capture.specs.Lanes.{CapturesHeld, IsReadyAmong};
 ghost use Rattle.vdr_session.specs.declared.mark.Mark.{Mark as Marked};
@@ -54,8 +56,9 @@ pub(crate) fn run_lanes<
     requires leads { (pass.old.leads ≡ true) × (is_begun pass.old.own ≡ true) × (taken_in pass.old.own ≡ []) }
     requires marks { (m : Marked) → T.leading m ≡ is_leading m }
     requires takes { (history : List Marked) (x : T) → T.leaves history x → is_begun history ≡ true → T.takes (taken_in history) x }
-    requires room { (largest_item ≤ room) × (room ≤ T.room) × (room / least_item ≤ batch.old.items.capacity) }
+    requires room { (largest_item ≤ room) × (room ≤ T.room) × (room / least_datagram ≤ batch.old.items.capacity) }
     requires empty { batch.old.items.items ≡ [] }
+    requires foretells { Foretells T.limits [] batch.old.charges }
     ensures lanes { (g : ℕ) (d : _) → g < 16 → LaneRan P.Port turns g (get_or queues.now g None) (get_or takers.new g None) (slice_index_or lanes.old g d) (slice_index_or lanes.new g d) }
     ensures pass { (pass.new.latch ≡ pass.old.latch) × (pass.new.parts ≡ pass.old.parts) × (pass.new.leads ≡ true) × (is_begun pass.new.own ≡ true) }
     ensures seen { IsPrefix pass.old.seen pass.new.seen }

@@ -1,7 +1,9 @@
 // A session over a value, from the making of the latch to its close.
 ghost use Rattle.std.specs.Prelude.{◌≡◌, ◌≤◌, ◌<◌, ◌/◌, ◌++◌, ◌∷◌, ◌^◌, ℕ, List, [], true, false, get_or, slice_index_or, length, None, IfOk, IfErr};
 ghost use Rattle.std.specs.List.{filter};
-ghost use Rattle.vdr_durability.specs.Commits.{largest_item, least_item};
+ghost use Rattle.vdr_durability.specs.Commits.{largest_item};
+ghost use Rattle.vdr_recorder.specs.Making.{least_datagram};
+ghost use Rattle.vdr_run.specs.Charges.{Foretells};
 ghost use Rattle.vdr_intake.specs.Items.{most_items};
 ghost use Rattle.vdr_session.specs.declared.mark.Mark.{Mark as Marked};
 ghost use Rattle.vdr_session.specs.Marks.{is_begun, is_leading, taken_in};
@@ -55,8 +57,9 @@ pub(crate) fn under_latch<
     requires marks { (m : Marked) → T.leading m ≡ is_leading m }
     requires fresh { (history : List Marked) (x : T) → T.leaves history x → filter T.leading history ≡ [] → T.fresh x }
     requires takes { (history : List Marked) (x : T) → T.leaves history x → is_begun history ≡ true → T.takes (taken_in history) x }
-    requires room { (largest_item ≤ room) × (room ≤ T.room) × (room / least_item ≤ batch.old.items.capacity) }
+    requires room { (largest_item ≤ room) × (room ≤ T.room) × (room / least_datagram ≤ batch.old.items.capacity) }
     requires empty { batch.old.items.items ≡ [] }
+    requires foretells { Foretells T.limits [] batch.old.charges }
     ensures closed { IfOk result (λ r. (marks : List Marked) × T.leaves marks r.value × HasClosed P.Port turns T.configured queues.now takers.old takers.new lanes.old lanes.new r.began marks × DesksRan L.Link T.answers turns desks.old desks.new r.began marks × T.means r.began) }
     ensures refused { IfErr result (λ r. (r.value ≡ value) × (lanes.new ≡ lanes.old) × (takers.new ≡ takers.old) × (desks.new ≡ desks.old)) }
 {

@@ -56,7 +56,7 @@ returns-in-Ok-clause-leaves g c = λ history h. (by_failed history h.0 (cases_Bo
           rose = λ fails. absurd (true≢false (sym fails ∙ c.in-Ok.ensures.begins.works));
           elsewhere = c.in-Ok.ensures.writes.others;
         })
-        works c.requires.closed (inl c.in-Ok.ensures.begins.opens) (λ goes. (c.in-Ok.ensures.begins.opens, c.in-Ok.ensures.begins.numbers.0, c.in-Ok.ensures.begins.numbers.1))
+        works c.requires.closed (inl c.in-Ok.ensures.begins.opens) (λ goes. (c.in-Ok.ensures.begins.opens, c.in-Ok.ensures.begins.numbers.0, c.in-Ok.ensures.begins.numbers.1, c.in-Ok.ensures.begins.makes))
         (λ opening events t0 told has. c.in-Ok.ensures.started opening events t0 told works has (ok_no_fault c.in-Ok.field-0 Place) (ok_no_fault c.in-Ok.field-0 Tick))
 
     tallied : (history : List Mark) → IsTallied history c.args.self.now.tally → (c.args.self.now.recorder.vault.failed ≡ true) ⊎ (c.args.self.now.recorder.vault.failed ≡ false)

@@ -1,4 +1,4 @@
-use Rattle.std.proofs.Common.{◌≡◌, ◌⊎◌, inl, inr, ◌++◌, true, false, List, [], ◌∷◌, ◌∙◌, Option, All, sym, ap, subst, arith}
+use Rattle.std.proofs.Common.{◌≡◌, ◌⊎◌, inl, inr, ◌++◌, true, false, ℕ, List, [], ◌∷◌, ◌∙◌, Option, All, sym, ap, subst, arith}
 use Rattle.std.proofs.lemmas.Bool.{cases_Bool}
 use Rattle.std.proofs.lemmas.List.{length-append}
 use Rattle.vdr_terms.specs.declared.rate.Rate.{Rate}
@@ -8,6 +8,7 @@ use Rattle.vdr_config.specs.Sizes.{limits_in}
 use Rattle.std.specs.Prelude.{sum}
 use Rattle.vdr_outside.specs.Causes.{Rose}
 use Rattle.vdr_recorder.proofs.Batches.{numbers_append}
+use Rattle.vdr_run.specs.Sizes.{FitAfter}
 use Rattle.vdr_session.proofs.LanesFed.{all_behind}
 use Rattle.vdr_session.proofs.Numbered.{items_few, numbers_small}
 use Rattle.vdr_session.specs.Standing.{IsKept, batch_mark}
@@ -24,7 +25,12 @@ pub take_batch_watched-requires-clause-fits : goal.take_batch_watched-requires-c
 take_batch_watched-requires-clause-fits g c =
     let popped = c.requires.0 in
     record {
-      short = let short = c.requires.2.short in let room = c.requires.1.room_is in omega (arith, short, room);
+      short = record {
+        start = c.requires.1.makes.0;
+        popped = popped;
+        makes = c.requires.1.makes.1;
+        fit = subst (λ (x : List (Option Rate) × ℕ). FitAfter (limits_in x.0) popped c.args.items.now x.1) (λ i. (sym c.requires.1.rates_are i, sym c.requires.1.room_is i)) c.requires.2.short;
+      };
       configured = subst (λ (rates : List (Option Rate)). All (λ (x : Captured). is_configured (limits_in rates x.group) ≡ true) c.args.items.now) (sym c.requires.1.rates_are)
           (all_behind (λ (x : Captured). is_configured (limits_in g.O.Lent.rates x.group) ≡ true) popped c.args.items.now c.requires.2.known);
       places =
@@ -70,7 +76,7 @@ returns-clause-leaves g c = λ history h. (by_failed history h.0 (cases_Bool c.a
               e.failing.works e.writes.cause.in_all fails;
           elsewhere = e.writes.others;
         })
-        works c.args.items.now c.requires.1.open_is e.goes_on.stays_open e.goes_on.places e.goes_on.numbers (λ opening events t0 told has. e.taken opening events t0 told works has)
+        works c.args.items.now c.requires.1.open_is e.goes_on.stays_open (e.goes_on.makes works) e.goes_on.places e.goes_on.numbers (λ opening events t0 told has. e.taken opening events t0 told works has)
 
 pub returns-clause-mark : goal.returns-clause-mark
 returns-clause-mark g c = mark_is c.args.items.now c.args.self.now.recorder.vault.failed c.take_batch_watched.new.self.vault.failed (g.M.Media.disk c.take_batch_watched.new.media).clock c.take_batch_watched.result c.is_ok.result
