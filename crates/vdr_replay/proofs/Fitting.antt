@@ -1,5 +1,5 @@
 -- What is counted of a feed fits the recorder.
-use Rattle.std.proofs.Common.{◌≡◌, ◌≤◌, ◌<◌, ◌+◌, ◌^◌, ℕ, List, [], ◌∷◌, ◌++◌, length, sum_by, All, Bool, true, false, ◌==◌, refl, sym, ap, ◌∙◌, subst, arith, ⊎_elim, add-zero, length-append}
+use Rattle.std.proofs.Common.{◌≡◌, ◌≤◌, ◌<◌, ◌+◌, ◌/◌, ◌^◌, ℕ, List, [], ◌∷◌, ◌++◌, length, sum_by, All, Bool, true, false, ◌==◌, refl, sym, ap, ◌∙◌, subst, arith, ⊎_elim, add-zero, length-append}
 use Rattle.std.proofs.lemmas.Bool.{cases_eq, cond-true, cond-false, eq-eqb, ne_eqb}
 use Rattle.std.proofs.lemmas.List.Sums.{sum_by-cons}
 use Rattle.std.proofs.lemmas.List.Elements.{All-nil, All-cons, All-append}
@@ -19,15 +19,18 @@ use Rattle.vdr_config.specs.Sizes.{limits_in}
 use Rattle.vdr_feed.specs.Kept.{Holds}
 use Rattle.vdr_feed.specs.declared.item.Item.{Item as Held}
 use Rattle.vdr_run.specs.Making.{counted_of}
-use Rattle.vdr_recorder.specs.Making.{numbers_of}
+use Rattle.vdr_recorder.specs.Making.{MakesBy, least_datagram, numbers_of}
+use Rattle.vdr_recorder.specs.Calls.{GoesOnWith}
+use Rattle.vdr_recorder.specs.Recordings.{RecorderState}
 use Rattle.vdr_recorder.proofs.Batches.{numbers_append}
 use Rattle.vdr_run.specs.declared.maker.Maker.{Maker}
 use Rattle.vdr_replay.specs.declared.lanes.Lanes.{Lanes}
 use Rattle.vdr_feed.specs.Feed.{longest_feed}
-use Rattle.vdr_replay.specs.Feeding.{HasRate}
+use Rattle.vdr_replay.specs.Feeding.{AreConfigured, HasRate}
 use Rattle.vdr_run.specs.Given.{CountsFeed}
-use Rattle.vdr_replay.specs.Given.{AreFew, HoldsFeed, IsSized}
+use Rattle.vdr_replay.specs.Given.{AreFew, HoldsFeed, IsAhead, IsSized}
 use Rattle.vdr_run.proofs.Given.{fewer, no_start, tally_other}
+use Rattle.vdr_replay.proofs.Charged.{ahead_of_all}
 use Rattle.vdr_replay.proofs.Given.{rated}
 
 -- What fits the recorder
@@ -97,7 +100,7 @@ numbers_fit feed batch maker h few g low = let a = h.numbers g low in let b = fe
 -- All that is held, with one more item
 module _ (config : Configuration) (feed : List FeedItem) (x : FeedItem) (item : Held) (old new : Lanes) (maker : Maker) (h : HoldsFeed config feed old maker) (few : length feed < longest_feed)
     (holds : Holds item x) (low : item.group < 16) (rate : HasRate config.groups item.group) (counts : CountsFeed (feed ++ x ∷ []) new.ports)
-    (batch : new.batch.items ≡ old.batch.items ++ captured_if (is_yes (verdict x.item.bytes)) feed x) (room : new.room ≡ old.room) (sized : IsSized new) where
+    (batch : new.batch.items ≡ old.batch.items ++ captured_if (is_yes (verdict x.item.bytes)) feed x) (room : new.room ≡ old.room) (sized : IsSized new) (ahead : IsAhead config new maker) where
   rated_one : (b : Bool) → All (λ c. is_configured (limits_in config.groups c.group) ≡ true) (captured_if b feed x)
   rated_one true = All-cons (λ (c : Captured). is_configured (limits_in config.groups c.group) ≡ true) (captured_after feed x) []
       (rated config.groups x.group (subst (HasRate config.groups) holds.group rate)) (All-nil (λ (c : Captured). is_configured (limits_in config.groups c.group) ≡ true))
@@ -114,8 +117,46 @@ module _ (config : Configuration) (feed : List FeedItem) (x : FeedItem) (item : 
           (All-append (λ c. is_configured (limits_in config.groups c.group) ≡ true) old.batch.items (captured_if (is_yes (verdict x.item.bytes)) feed x) h.batch.configured (rated_one (is_yes (verdict x.item.bytes))));
     };
     fits = subst (λ (cs : List Captured). AreFew (feed ++ x ∷ []) cs maker) (sym batch) (few_more feed x old.batch.items maker h.fits);
+    ahead = ahead;
     known = All-append (λ i. HasRate config.groups i.group) feed (x ∷ []) h.known
         (All-cons (λ (i : FeedItem). HasRate config.groups i.group) x [] (subst (HasRate config.groups) holds.group rate) (All-nil (λ (i : FeedItem). HasRate config.groups i.group)));
     low = All-append (λ i. i.group < 16) feed (x ∷ []) h.low
         (All-cons (λ (i : FeedItem). i.group < 16) x [] (subst (λ (g : ℕ). g < 16) holds.group low) (All-nil (λ (i : FeedItem). i.group < 16)));
   }
+
+-- All that is held, once the batch was recorded
+pub holds_recorded : (feed : List FeedItem) (lanes after : Lanes) (r made : RecorderState) (sizes : List ℕ) (items : List Captured) → HoldsFeed r.vault.config feed lanes r.maker → items ≡ lanes.batch.items
+    → r.vault.failed ≡ false → GoesOnWith items r made sizes → after.batch.items ≡ [] → after.batch.capacity ≡ lanes.batch.capacity → after.ports ≡ lanes.ports → after.charges ≡ lanes.charges
+    → after.left ≡ after.room → after.room ≡ lanes.room → HoldsFeed made.vault.config feed after made.maker
+holds_recorded feed lanes after r made sizes items h is works goes empty capacity ports charges left room = record {
+  few = h.few;
+  counts = subst (CountsFeed feed) (sym ports) h.counts;
+  batch = record {
+    room = room ∙ h.batch.room ∙ ap (λ (config : Configuration). config.batch) (sym goes.config);
+    sized = record {
+      any = let any = h.batch.sized.any in omega (arith, any, room);
+      space = subst (λ (x : ℕ × ℕ). x.0 / least_datagram ≤ x.1) (λ i. (sym room i, sym capacity i)) h.batch.sized.space;
+      few = let none = ap length empty in omega (arith, none);
+    };
+    configured = subst (All (λ c. is_configured (limits_in made.vault.config.groups c.group) ≡ true)) (sym empty) (All-nil (λ (c : Captured). is_configured (limits_in made.vault.config.groups c.group) ≡ true));
+  };
+  fits = record {
+    place =
+        let place = h.fits.place in
+        let places = goes.places in
+        let none = ap length empty in
+        let count = ap length is in
+        omega (arith, place, places, none, count);
+    numbers = λ g low.
+        let had = h.fits.numbers g low in
+        let more = goes.numbers g low in
+        let none = ap (numbers_of g) empty in
+        let count = ap (numbers_of g) is in
+        omega (arith, had, more, none, count);
+  };
+  ahead = subst (λ (config : Configuration). IsAhead config after made.maker) (sym goes.config)
+      (ahead_of_all r.vault.config lanes after r.maker made.maker h.ahead empty charges left
+      (subst (λ (x : Configuration × List Captured). MakesBy x.0 h.ahead.start (h.ahead.popped ++ x.1) made.maker) (λ i. (goes.config i, is i)) (goes.makes works h.ahead.start h.ahead.popped h.ahead.makes)));
+  known = subst (λ (config : Configuration). AreConfigured config.groups feed) (sym goes.config) h.known;
+  low = h.low;
+}

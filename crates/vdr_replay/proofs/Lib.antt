@@ -1,5 +1,6 @@
 pub mod Reading
 pub mod Given
+pub mod Charged
 pub mod Fitting
 pub mod Passing
 pub mod Calls

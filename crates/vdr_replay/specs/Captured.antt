@@ -1,8 +1,12 @@
 -- An item as it is taken.
-use Rattle.std.specs.Prelude.{◌+◌, ℕ, length}
-use Rattle.vdr_durability.specs.Commits.{least_item}
+use Rattle.std.specs.Prelude.{List}
+use Rattle.vdr_terms.specs.Datagrams.{verdict, is_yes}
+use Rattle.vdr_terms.specs.Records.{FeedItem}
+use Rattle.vdr_core.specs.Taken.{Captured}
+use Rattle.vdr_core.specs.Replay.{captured_if}
+use Rattle.vdr_feed.specs.Kept.{item_in}
 use Rattle.vdr_feed.specs.declared.item.Item.{Item}
 
--- The most bytes that its records take, where it is recordable.
-abbrev pub item_bytes : Item → ℕ
-item_bytes item = least_item + length item.bytes.items
+-- What goes to the batch of the next item of a feed: itself, where it is recordable.
+abbrev pub pushed_of : List FeedItem → Item → List Captured
+pushed_of feed item = captured_if (is_yes (verdict item.bytes.items)) feed (item_in item)

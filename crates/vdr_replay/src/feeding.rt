@@ -1,21 +1,23 @@
 // The items of a feed, as they are read and recorded.
 //
-// An item that does not fit is in hand as it was read; the batch is recorded first, and the item is the first of the
-// next. To stop while fewer than 1,600 bytes are left would leave three quarters of the smallest batch empty.
+// An item whose records do not fit is in hand as it was read; the batch is recorded first, and the item is the first of the
+// next. One that is not recordable has no records, and cuts no batch.
 ghost use Rattle.std.specs.Prelude.{◌≡◌, ◌≤◌, ◌<◌, ◌+◌, ◌∷◌, ◌++◌, ℕ, List, [], true, false, length, Option, None, Some, IfNone, IfOk, IfSome, OnErr, OnOk};
 ghost use Rattle.std.specs.Io.KnownBytes.{IsAtEnd};
+ghost use Rattle.vdr_terms.specs.Rates.{Limit};
 ghost use Rattle.vdr_terms.specs.Records.{FeedItem};
 ghost use Rattle.vdr_core.specs.Histories.{Event, Opening};
+ghost use Rattle.vdr_core.specs.Taken.{Captured as CapturedTold};
 ghost use Rattle.vdr_outside.specs.Causes.{Rose};
 ghost use Rattle.vdr_feed.specs.Kept.{Holds, IsLegalItem};
 ghost use Rattle.vdr_feed.specs.Reader.{IfKnown, IsNext, past_item};
 ghost use Rattle.vdr_vault.specs.Calls.{SameElsewhere};
 ghost use Rattle.vdr_vault.specs.Openings.{HasCauseOnBoth};
 ghost use Rattle.vdr_vault.specs.Vaults.{AreRings};
-ghost use Rattle.vdr_replay.specs.Captured.{item_bytes};
 ghost use Rattle.vdr_feed.specs.Feed.{longest_feed};
 ghost use Rattle.vdr_replay.specs.Feeding.{HasRate, ReadsFeed};
-ghost use Rattle.vdr_replay.specs.Given.{HoldsFeed};
+ghost use Rattle.vdr_run.specs.Given.{CountsFeed};
+ghost use Rattle.vdr_replay.specs.Given.{AreCharged, HasRoomFor, HoldsFeed};
 ghost use Rattle.vdr_feed.specs.Progress.{HasRead};
 ghost use Rattle.vdr_recorder.specs.Watched.{IsWatched};
 ghost use Rattle.vdr_replay.specs.Taking.{BreaksFeed, BreaksOff, HasTaken, TakesFeed, TakesOn};
@@ -78,6 +80,7 @@ fn make_room<M: Media, W: Watch<M>>(
     requires open { recorder.old.is_open ≡ true }
     requires works { recorder.old.vault.failed ≡ false }
     requires watched { IsWatched W.hears (W.seen watch.old) recorder.old (M.disk media.old) }
+    requires legal { IsLegalItem item.now }
     requires held { (feed : List FeedItem) × HoldsFeed recorder.old.vault.config feed lanes.old recorder.old.maker }
     ensures taken { (opening : Opening) (feed : List FeedItem) (events : List Event) (t0 : ℕ) → M.tells
         → HasTaken opening feed lanes.old.batch.items events t0 recorder.old (M.disk media.old)
@@ -87,7 +90,10 @@ fn make_room<M: Media, W: Watch<M>>(
         → OnErr result (BreaksOff opening feed events t0 recorder.new (M.disk media.old) (M.disk media.new) W.hears (W.seen watch.old) (W.seen watch.new)) }
     ensures held { OnOk result ((feed : List FeedItem) → HoldsFeed recorder.old.vault.config feed lanes.old recorder.old.maker
         → HoldsFeed recorder.new.vault.config feed lanes.new recorder.new.maker) }
-    ensures room { OnOk result (lanes.new.size + item_bytes item.now ≤ lanes.new.room) }
+    ensures room { OnOk result ((limits : ℕ → Limit) (popped : List CapturedTold) (feed : List FeedItem) → CountsFeed feed lanes.new.ports → AreCharged limits popped lanes.new
+        → HasRoomFor limits popped feed item.now lanes.new) }
+    ensures full { (limits : ℕ → Limit) (popped : List CapturedTold) (feed : List FeedItem) → CountsFeed feed lanes.old.ports → AreCharged limits popped lanes.old
+        → HasRoomFor limits popped feed item.now lanes.old → (lanes.new ≡ lanes.old) × (media.new ≡ media.old) }
     ensures works { OnOk result (recorder.new.vault.failed ≡ false) }
     ensures open { recorder.new.is_open ≡ true }
     ensures config { recorder.new.vault.config ≡ recorder.old.vault.config }

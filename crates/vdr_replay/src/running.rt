@@ -2,6 +2,7 @@
 ghost use Rattle.std.specs.Prelude.{◌≡◌, ◌≤◌, ◌<◌, ℕ, List, [], true, false, Option, IfOk, OnErr, OnOk};
 ghost use Rattle.std.specs.Io.KnownBytes.{IsAtEnd};
 ghost use Rattle.vdr_core.specs.Histories.{Opening};
+ghost use Rattle.vdr_config.specs.Sizes.{limits_in};
 ghost use Rattle.vdr_outside.specs.Causes.{Rose};
 ghost use Rattle.vdr_vault.specs.Calls.{SameElsewhere};
 ghost use Rattle.vdr_vault.specs.Openings.{HasCauseOnBoth};
@@ -10,7 +11,7 @@ ghost use Rattle.vdr_recorder.specs.Recordings.{HasRecorded};
 ghost use Rattle.vdr_recorder.specs.Watched.{IsWatched};
 ghost use Rattle.vdr_replay.specs.Answers.{HasReplayCause, RefusesRun};
 ghost use Rattle.vdr_run.specs.Given.{CountsFeed};
-ghost use Rattle.vdr_replay.specs.Given.{HasBatch, HoldsFeed};
+ghost use Rattle.vdr_replay.specs.Given.{AreCharged, HasBatch, HoldsFeed};
 ghost use Rattle.vdr_replay.specs.Ran.{DecidesRun, Runs, StopsIn};
 ghost use Rattle.vdr_feed.specs.Progress.{HasRead};
 ghost use Rattle.vdr_replay.specs.Taking.{BreaksFeed, RecordsFeed};
@@ -73,6 +74,7 @@ pub(crate) fn record_run<I: Source, M: Media, W: Watch<M>>(
     requires read { (first : Option (List ℕ)) × HasRead first (I.left input.old) reader.old [] }
     requires counts { CountsFeed [] lanes.old.ports }
     requires batch { HasBatch recorder.old.vault.config lanes.old }
+    requires charged { AreCharged (limits_in recorder.old.vault.config.groups) [] lanes.old }
     requires empty { lanes.old.batch.items ≡ [] }
     ensures ran { (opening : Opening) (t0 : ℕ) → M.tells → HasRecorded opening [] t0 recorder.old (M.disk media.old)
         → Runs opening t0 (I.left input.old) reader.old (I.left input.new) recorder.old.vault.config.groups recorder.new (M.disk media.old) (M.disk media.new) W.hears (W.seen watch.old) (W.seen watch.new) result }

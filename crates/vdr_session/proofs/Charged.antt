@@ -1,6 +1,5 @@
 -- What a batch is charged for the items that it takes.
-use Rattle.std.proofs.Common.{◌≡◌, ◌≤◌, ◌<◌, ◌+◌, ◌-◌, ◌/◌, ◌++◌, ℕ, List, [], ◌∷◌, length, Option, Some, None, get_or, ◌⊎◌, inl, inr, ⊎_elim, sym, ap, ◌∙◌, subst, append_assoc, append-nil, arith}
-use Rattle.std.proofs.lemmas.List.{length-append}
+use Rattle.std.proofs.Common.{◌≡◌, ◌≤◌, ◌+◌, ◌-◌, ◌/◌, ◌++◌, ℕ, List, [], length, Option, Some, None, get_or, ◌⊎◌, inl, inr, ⊎_elim, sym, ap, ◌∙◌, subst, append_assoc, append-nil, arith}
 use Rattle.vdr_terms.specs.Rates.{Limit}
 use Rattle.vdr_core.specs.Taken.{Captured}
 use Rattle.vdr_run.specs.Charges.{Foretells, TakesWithin}

@@ -1,5 +1,5 @@
 -- What is held of each group, as one step is made after another.
-use Rattle.std.proofs.Common.{◌≡◌, ◌<◌, ◌≤◌, ◌++◌, ◌+◌, ◌-◌, ◌/◌, ℕ, zero, suc, Bool, List, [], ◌∷◌, All, Option, Some, None, IfSome, IfNone, is_some, false, length, get_or, set, replicate, refl, sym, ap, ◌∙◌, subst, append-nil, arith}
+use Rattle.std.proofs.Common.{◌≡◌, ◌<◌, ◌≤◌, ◌++◌, ◌+◌, ℕ, zero, suc, Bool, List, [], ◌∷◌, All, Option, Some, None, IfSome, IfNone, is_some, false, length, get_or, set, replicate, refl, sym, ap, ◌∙◌, subst, append-nil, arith}
 use Rattle.std.proofs.lemmas.List.{get_or-set_same, get_or-set_other}
 use Rattle.std.proofs.lemmas.List.Elements.{All-cons, All-nil}
 use Rattle.vdr_core.specs.Taken.{Captured, of_group}

@@ -1,11 +1,11 @@
 -- How a session ended: where there was no memory nothing is told of groups, and of the media a fault is told that they met.
-use Rattle.std.proofs.Common.{◌≡◌, ◌&&◌, inl, inr, ℕ, zero, suc, false, List, Option, None, length, replicate, get_or, is_some, refl, sym, ap, ◌∙◌, subst}
+use Rattle.std.proofs.Common.{◌≡◌, ◌&&◌, inl, inr, ℕ, zero, suc, false, List, Option, None, replicate, get_or, is_some, refl, sym, ap, ◌∙◌, subst}
 use Rattle.std.specs.Prelude.{sum}
 use Rattle.vdr_terms.specs.declared.rate.Rate.{Rate}
 use Rattle.vdr_outside.specs.Causes.{NoneFalls, Rose}
 use Rattle.vdr_outside.proofs.Counts.{none_fell}
 use Rattle.vdr_capture.specs.declared.sums.Outcome.{Outcome}
-use Rattle.vdr_capture.specs.declared.sums.Outcome.TheVariants.{Done, NoMemory, MediaFault, PortFault, LinkFault}
+use Rattle.vdr_capture.specs.declared.sums.Outcome.TheVariants.{NoMemory, MediaFault, PortFault, LinkFault}
 use Rattle.vdr_session.specs.declared.session.SessionEnd.{SessionEnd}
 use Rattle.vdr_session.specs.Ended.{IsWithFailures}
 use Rattle.vdr_session.specs.Sessions.{HasGroups, HasSessionCause, has_groups}

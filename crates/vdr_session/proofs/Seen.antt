@@ -1,5 +1,5 @@
 -- What passes have seen.
-use Rattle.std.proofs.Common.{◌≡◌, ◌++◌, ◌∷◌, ◌||◌, List, [], sym, ◌∙◌, subst}
+use Rattle.std.proofs.Common.{◌≡◌, ◌++◌, ◌∷◌, List, [], sym, subst}
 use mathlib.Core.List.{IsPrefix}
 use Rattle.vdr_latch.proofs.Prefixes.{prefix_more}
 use Rattle.vdr_desk.proofs.Exchanged.{prefix_join}

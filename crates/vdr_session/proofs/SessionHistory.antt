@@ -1,5 +1,5 @@
 -- What a session leaves: its lanes, its records, and its history, by what was told.
-use Rattle.std.proofs.Common.{◌≡◌, ◌≢◌, ◌⊎◌, inl, inr, ◌<◌, ◌≤◌, ◌+◌, ◌-◌, ◌++◌, ◌&&◌, ℕ, Bool, true, false, true≢false, List, [], Option, Some, None, length, if◌then◌else◌, count_by, refl, sym, ap, ◌∙◌, subst, arith, append-nil}
+use Rattle.std.proofs.Common.{◌≡◌, ◌⊎◌, inl, inr, ◌<◌, ◌≤◌, ◌+◌, ◌++◌, ℕ, Bool, true, false, true≢false, List, [], Option, Some, None, length, if◌then◌else◌, count_by, refl, sym, ap, ◌∙◌, subst, arith, append-nil}
 use Rattle.std.specs.Prelude.{IfSome}
 use Rattle.std.proofs.lemmas.Bool.{cases_Bool}
 use Rattle.vdr_terms.specs.declared.counts.Counts.{Counts}
@@ -10,7 +10,7 @@ use Rattle.vdr_terms.specs.Counting.{Tally}
 use Rattle.vdr_terms.specs.Datagrams.{is_bad, is_large, verdict}
 use Rattle.vdr_core.specs.Accounts.{Accounts, AccountsPrefix}
 use Rattle.vdr_core.specs.FullCounts.{AreFullSteps, FullCounts}
-use Rattle.vdr_core.specs.Histories.{Opening, recorded}
+use Rattle.vdr_core.specs.Histories.{Opening}
 use Rattle.vdr_core.specs.Recorder.{closed_run, recorder_after}
 use Rattle.vdr_core.specs.Runs.{RunStart, base_of}
 use Rattle.vdr_core.specs.Sums.{Sums, counted_by, missed_before, missed_in, recorded_in}

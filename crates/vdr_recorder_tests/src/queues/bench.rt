@@ -123,6 +123,9 @@ impl<M: Media + Drop> Run<M> {
         if config.batch < 2_048 || config.groups[3].is_none() || self.taken >= 16 {
             return false;
         }
+        if self.recorder.failed() {
+            return false;
+        }
         let is_taken = self.recorder.take_batch(&mut self.media, &[item]).is_ok();
         self.taken += 1;
         is_taken

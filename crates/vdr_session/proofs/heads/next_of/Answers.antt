@@ -1,4 +1,4 @@
-use Rattle.std.proofs.Common.{Option, None, Some, inl, inr, true, sym, subst, arith}
+use Rattle.std.proofs.Common.{Option, None, Some, inl, inr, sym, subst, arith}
 use Rattle.vdr_core.specs.Taken.{Captured}
 use Rattle.vdr_desk.proofs.Lists.{no_default}
 use Rattle.vdr_session.specs.Heads.{ChargesHeld}
