@@ -126,6 +126,8 @@ impl<M: Media + Drop> Run<M> {
         if self.recorder.failed() {
             return false;
         }
+        // No item is longer than what is recorded, as its type keeps.
+        let _bytes = &item.bytes;
         let is_taken = self.recorder.take_batch(&mut self.media, &[item]).is_ok();
         self.taken += 1;
         is_taken
