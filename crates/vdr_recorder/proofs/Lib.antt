@@ -14,6 +14,13 @@ pub mod Admitting
 pub mod Ordering
 pub mod Restoring
 pub mod Playing
+pub mod TagBounds
+pub mod LineBounds
+pub mod TextBounds
+pub mod PlayParts
+pub mod PlayTurns
+pub mod PlayGone
+pub mod PlayOn
 pub mod Resting
 pub mod Passing
 pub mod Headlines

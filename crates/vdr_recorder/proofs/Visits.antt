@@ -40,7 +40,7 @@ looked_as query r t old new read_before read_now faults_before faults_now first 
 }
 
 -- Nothing was read.
-still : {tells tells_images : Type 0} (query : Query) (vault : VaultState) (disk : Disk tells tells_images) (read : List ℕ) → AreRings vault disk.sizes → HasOnlyRead query vault vault disk disk read read
+pub still : {tells tells_images : Type 0} (query : Query) (vault : VaultState) (disk : Disk tells tells_images) (read : List ℕ) → AreRings vault disk.sizes → HasOnlyRead query vault vault disk disk read read
 still query vault disk read rings = record {
   vault = record { vault = refl; count = refl; ring = refl; others = λ k other. refl };
   rings = rings;

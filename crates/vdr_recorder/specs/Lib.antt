@@ -5,6 +5,7 @@ pub mod Refusals
 pub mod Looks
 pub mod Reads
 pub mod Playing
+pub mod Resuming
 pub mod Calls
 pub mod Watched
 pub mod Headline

@@ -43,7 +43,7 @@ use vdr_vault::SaveRefused;
 use vdr_visit::{VisitRefused, Visitor};
 
 // Tells of a turn, where it is to be told.
-fn tell<M: Media, W: Watch<M>>(watch: &mut W, media: &M, told: bool, did: Turn<'_>)
+pub(crate) fn tell<M: Media, W: Watch<M>>(watch: &mut W, media: &M, told: bool, did: Turn<'_>)
     requires shown { told ≡ true → W.hears → ShowsTold (with_turn (W.seen watch.old) (plain did) (M.disk media.now).clock) (M.disk media.now) }
     ensures { W.hears → W.seen watch.new ≡ told_if told (plain did.entry) (M.disk media.now).clock (W.seen watch.old) }
 {

@@ -14,6 +14,12 @@ fn main(rt: HostRuntime) -> io::Result<()> {
     println!(rt; "an item handed back is taken after a pop: {again:?}")?;
     let drained = queues::drained(&rt, rt.alloc());
     println!(rt; "a full queue is drained, and its gap closes the run: {drained:?}")?;
+    let printed = queues::printed_in_turns(rt.alloc());
+    println!(rt; "a play in turns prints what it had printed at its begin: {printed:?}")?;
+    let gone = queues::gone_between_turns(rt.alloc());
+    println!(rt;
+        "of a play whose segments are written over between its turns that is told: {gone:?}"
+    )?;
     let held = rings::held_after_each(rt.alloc());
     println!(rt; "the last minute is held after each of 600 batches: {held:?}")?;
     let left = rings::left_by_each_stop(rt.alloc());

@@ -2,8 +2,10 @@
 ghost use Rattle.std.specs.Prelude.{◌≡◌, []};
 
 mod bench;
+mod plays;
 
 use bench::{Bench, FOUR_FULL, Run};
+pub(crate) use plays::{gone_between_turns, printed_in_turns};
 use std::alloc::{AllocError, Global};
 use std::sync::Wait;
 use vdr_capture::{Lane, capture};

@@ -9,7 +9,8 @@ use std::marker::Model;
 use vdr_intake::Captured;
 use vdr_memory::MemorySink;
 use vdr_outside::Media;
-use vdr_recorder::{Medium, Query, Recorder};
+use vdr_piece::Piece;
+use vdr_recorder::{Going, Medium, OpenPlay, Query, Recorder};
 use vdr_terms::Counts;
 
 pub(super) const NONE: Counts = Counts {
@@ -26,6 +27,14 @@ const FULL: [Counts; 16] = [
     NONE, NONE, NONE, FOUR_FULL, NONE, NONE, NONE, NONE, NONE, NONE, NONE, NONE, NONE, NONE, NONE,
     NONE,
 ];
+
+// All that the capsule has.
+const ALL: Query = Query {
+    medium: Medium::Capsule,
+    channel: None,
+    from: 0,
+    to: 1_000_000,
+};
 
 /// A recorder that has no run open.
 #[derive(Drop)]
@@ -120,7 +129,7 @@ impl<M: Media + Drop> Run<M> {
         requires missed { total item.missed ≡ 0 }
     {
         let config = self.recorder.config();
-        if config.batch < 2_048 || config.groups[3].is_none() || self.taken >= 16 {
+        if config.batch < 2_048 || config.groups[3].is_none() || self.taken >= 1_000 {
             return false;
         }
         if self.recorder.failed() {
@@ -131,6 +140,28 @@ impl<M: Media + Drop> Run<M> {
         let is_taken = self.recorder.take_batch(&mut self.media, &[item]).is_ok();
         self.taken += 1;
         is_taken
+    }
+
+    /// Begins a play of all that the capsule has. None where it is not begun.
+    pub(super) fn begin_play(&mut self) -> Option<OpenPlay> {
+        self.recorder.begin_play(&mut self.media, &ALL).ok()
+    }
+
+    /// Prints on. None where a read is refused.
+    pub(super) fn play_on(&mut self, play: &mut OpenPlay, piece: &mut Piece) -> Option<Going> {
+        if piece.len() >= vdr_piece::FULL {
+            return None;
+        }
+        self.recorder.play_on(&mut self.media, play, piece).ok()
+    }
+
+    /// What a play of all that the capsule has prints. None where it fails.
+    pub(super) fn played(&mut self, alloc: Global) -> Option<MemorySink> {
+        let mut out = MemorySink::new(alloc, Vec::new(alloc));
+        match self.recorder.play(&mut self.media, &ALL, &mut out) {
+            Ok(()) => Some(out),
+            Err(_) => None,
+        }
     }
 
     /// Closes the run, in which NAVD's port has missed four items that found no room. None where it is not closed.

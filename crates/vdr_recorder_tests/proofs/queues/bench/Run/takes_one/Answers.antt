@@ -23,6 +23,6 @@ take_batch-requires-clause-fits g c = record {
             omega (arith, most, short, batch, roomy);
       };
   configured = search rules;
-  places = let place = c.self.invariant.place in omega (arith, place, c.if-self-ge16.false);
+  places = let place = c.self.invariant.place in omega (arith, place, c.if-self-ge1000.false);
   numbers = search rules;
 }

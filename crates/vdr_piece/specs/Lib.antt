@@ -1,0 +1,1 @@
+-- Its words are those of vdr_outside's Writes.
