@@ -32,7 +32,10 @@ fn main(rt: HostRuntime) -> ExitCode {
     let Ok(mut lanes) = udp_lanes(&rt, rt.alloc(), &alarm, &heard) else {
         return ExitCode::from(no_memory(&rt, io::writer(&rt)));
     };
-    let mut desks = [tcp_desk(&rt, &alarm)];
+    let Ok(desk) = tcp_desk(&rt, rt.alloc(), &alarm) else {
+        return ExitCode::from(no_memory(&rt, io::writer(&rt)));
+    };
+    let mut desks = [desk];
     let code = command_line(
         &rt,
         &rt,

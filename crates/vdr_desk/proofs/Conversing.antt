@@ -1,20 +1,23 @@
 -- What goes over a link, call by call.
-use Rattle.std.proofs.Common.{◌≡◌, ◌≢◌, ◌≤◌, ◌<◌, ◌+◌, ◌⊎◌, ℕ, List, [], ◌∷◌, ◌++◌, map, length, nat_lt, Option, Some, None, refl, sym, ap, ◌∙◌, subst, append_assoc, append-nil}
-use Rattle.std.specs.Prelude.{if◌then◌else◌}
+use Rattle.std.proofs.Common.{◌≡◌, ◌≤◌, ◌<◌, ◌⊎◌, inl, inr, false, true≢false, ℕ, List, [], ◌∷◌, ◌++◌, map, length, nat_lt, Option, Some, None, Result, Ok, Err, refl, sym, ap, ◌∙◌, subst, append_assoc, append-nil, arith}
+use Rattle.std.specs.Prelude.{IsErr, IsOk, OnErr, OnOk, is_err}
 use Rattle.std.proofs.lemmas.List.{map-append}
 use Rattle.std.proofs.lemmas.Grind.{flat_map-append}
 use Rattle.std.proofs.lemmas.Bool.{cond-false, cond-true, le-ltb, lt-ltb}
 use Rattle.std.specs.Io.KnownBytes.{Appends, Keeps}
+use Rattle.vdr_outside.specs.Calls.{asked_again, other}
+use Rattle.vdr_outside.specs.Causes.{HasCause}
 use Rattle.vdr_outside.specs.Hears.{Passes, bare}
+use Rattle.vdr_outside.specs.declared.link.Link.{Ghosts as LinkTells}
+use Rattle.vdr_outside.proofs.Counts.{rose_after}
 use Rattle.vdr_outside.specs.Told.{Stays, Loses}
 use Rattle.vdr_outside.specs.Writes.{AppendsFront}
 use Rattle.vdr_capture.proofs.Giving.{loses_none, loses_more, loses_stays}
 use mathlib.Core.List.{IsPrefix}
-use Rattle.vdr_control.specs.Orders.{PlainOrder}
-use Rattle.vdr_desk.specs.Exchanges.{AreExchanged, Exchange, IsExchanged, no_order_line, texts_of}
-use Rattle.vdr_desk.specs.Links.{HeardAll, as_heard}
-use Rattle.vdr_desk.proofs.Exchanged.{exchanged_more, refused_at}
-use Rattle.vdr_latch.proofs.Prefixes.{prefix_self}
+use Rattle.vdr_desk.specs.Answers.{Answer}
+use Rattle.vdr_desk.specs.Exchanges.{AreExchanged, EndBegun, Exchange, IsSaid, texts_of}
+use Rattle.vdr_desk.specs.Links.{HasReplied, HeardAll, as_heard}
+use Rattle.vdr_desk.proofs.Exchanged.{all_on, exchanged_more}
 
 pub heard_none : (a : Option (List (List ℕ))) → HeardAll a a []
 heard_none a = record { whole = []; are_heard = refl; left = loses_none a }
@@ -73,28 +76,146 @@ front_replied a b c exchanges x p q = (
   replied_on a b c (texts_of exchanges) q.0 p q.3,
 )
 
--- A line was heard and answered by this text.
-pub record IsAnswered {E : Type 0} (answers : List E → E → PlainOrder → List ℕ → Type 0) (before after : Option (List (List ℕ))) (exchanges : List Exchange) (start : ℕ) (seen : List E) (text : List ℕ) : Type 0 where
-  pub x : Exchange
-  pub text_is : x.text ≡ text
-  pub heard : HeardAll before after (map (λ x. x.line) (exchanges ++ x ∷ []))
-  pub answered : AreExchanged answers seen start (exchanges ++ x ∷ []) (length seen)
+-- These bytes went over the link, and nothing failed.
+pub record HasSent {L : Type 0} (tells : LinkTells L) (old new : L) (text : List ℕ) : Type 0 where
+  pub all : Appends (tells.replied old) (tells.replied new) text
+  pub left : Stays (tells.left old) (tells.left new)
+  pub asked : tells.asked new ≡ tells.asked old
+  pub later : tells.faults old ≤ tells.faults new
 
-module _ {E : Type 0} (answers : List E → E → PlainOrder → List ℕ → Type 0) (a b c : Option (List (List ℕ))) (exchanges : List Exchange) (start : ℕ) (seen longer : List E) (into text : List ℕ)
-    (h : HeardAll a b (map (λ x. x.line) exchanges)) (answered : AreExchanged answers seen start exchanges (length seen)) where
-  pub line_answered : Passes b c (λ line. (into ≡ line) × (length line ≤ 256)) → IsPrefix seen longer
-      → IsExchanged answers longer (length seen) (length longer) (record { line = Some into; text = text }) → IsAnswered answers a c exchanges start longer text
-  line_answered p grows e = record {
-    x = record { line = Some into; text = text };
-    text_is = refl;
-    heard = heard_line a b c exchanges into text h p;
-    answered = exchanged_more answers seen longer start exchanges (record { line = Some into; text = text }) grows answered e;
+stays_none : (a : Option (List (List ℕ))) → Stays a a
+stays_none None = tt
+stays_none (Some xs) = refl
+
+stays_on : (a b c : Option (List (List ℕ))) → Stays a b → Stays b c → Stays a c
+stays_on None b c p q = tt
+stays_on (Some a) None c p q = absurd p
+stays_on (Some a) (Some b) None p q = absurd q
+stays_on (Some a) (Some b) (Some c) p q = q ∙ p
+
+front_on : (a b c : Option (List ℕ)) (xs ys : List ℕ) → Appends a b xs → AppendsFront b c ys → AppendsFront a c (xs ++ ys)
+front_on a b c xs ys p q = (xs ++ q.0, q.1, ap (λ (l : List ℕ). xs ++ l) q.2 ∙ sym (append_assoc xs q.0 q.1), replied_on a b c xs q.0 p q.3)
+
+module _ {L : Type 0} (tells : LinkTells L) where
+  pub sent_none : (link : L) → HasSent tells link link []
+  sent_none link = record { all = replied_none (tells.replied link); left = stays_none (tells.left link); asked = refl; later = omega arith }
+
+  pub sent_all : (old new : L) (text : List ℕ) → HasSent tells old new text → {T F : Type 0} (x : T) → HasReplied {T = T} {F = F} tells old new text (Ok x)
+  sent_all old new text sent x = record {
+    all = sent.all;
+    front = (text, [], sym (append-nil text), sent.all);
+    left = sent.left;
+    asked = sent.asked;
+    cause = record { later = sent.later; failed = tt };
   }
 
-  pub long_answered : Passes b c (λ line. (256 < length line) × (into ≡ [])) → text ≡ no_order_line → IsAnswered answers a c exchanges start seen text
-  long_answered p is = record {
-    x = record { line = None; text = text };
-    text_is = refl;
-    heard = heard_long a b c exchanges into text h p;
-    answered = exchanged_more answers seen seen start exchanges (record { line = None; text = text }) (prefix_self seen) answered (refused_at answers seen None text tt is);
+  module _ (old mid new : L) (first second : List ℕ) (sent : HasSent tells old mid first) where
+    pub sent_on : {T F : Type 0} (result : Result T F) → IsOk result → HasReplied tells mid new second result → HasSent tells old new (first ++ second)
+    sent_on (Ok x) ok h = record {
+      all = replied_on (tells.replied old) (tells.replied mid) (tells.replied new) first second sent.all h.all;
+      left = stays_on (tells.left old) (tells.left mid) (tells.left new) sent.left h.left;
+      asked = h.asked ∙ sent.asked;
+      later = (let a = sent.later in let b = h.cause.later in omega (arith, a, b));
+    }
+    sent_on (Err e) ok h = absurd (true≢false (sym ok))
+
+    pub replied_then : {T F : Type 0} (result : Result T F) → HasReplied tells mid new second result → HasReplied tells old new (first ++ second) result
+    replied_then (Ok x) h = record {
+      all = replied_on (tells.replied old) (tells.replied mid) (tells.replied new) first second sent.all h.all;
+      front = front_on (tells.replied old) (tells.replied mid) (tells.replied new) first second sent.all h.front;
+      left = stays_on (tells.left old) (tells.left mid) (tells.left new) sent.left h.left;
+      asked = h.asked ∙ sent.asked;
+      cause = record { later = (let a = sent.later in let b = h.cause.later in omega (arith, a, b)); failed = tt };
+    }
+    replied_then (Err e) h = record {
+      all = tt;
+      front = front_on (tells.replied old) (tells.replied mid) (tells.replied new) first second sent.all h.front;
+      left = stays_on (tells.left old) (tells.left mid) (tells.left new) sent.left h.left;
+      asked = h.asked ∙ sent.asked;
+      cause = record {
+        later = (let a = sent.later in let b = h.cause.later in omega (arith, a, b));
+        failed = rose_after (tells.faults old) (tells.faults mid) (tells.faults new) sent.later h.cause.failed;
+      };
+    }
+
+-- a call that failed, as the answer of its caller
+pub on_err : {T F : Type 0} (P : Type 0) (result : Result T F) → IsErr result → OnOk result P
+on_err P (Ok x) is = absurd (true≢false (sym is))
+on_err P (Err e) is = tt
+
+pub of_ok : {T F : Type 0} (P : Type 0) (result : Result T F) → is_err result ≡ false → OnOk result P → P
+of_ok P (Ok x) is h = h
+of_ok P (Err e) is h = absurd (true≢false is)
+
+pub of_err : {T F : Type 0} (P : Type 0) (result : Result T F) → IsErr result → OnErr result P → P
+of_err P (Ok x) is h = absurd (true≢false (sym is))
+of_err P (Err e) is h = h
+
+pub is_err_of : {T F : Type 0} (result : Result T F) (e : F) → result ≡ Err e → IsErr result
+is_err_of result e is = ap is_err is
+
+pub replied_failed : {L : Type 0} (tells : LinkTells L) (old new : L) (text : List ℕ) {T F U G : Type 0} (was : Result T F) (is : Result U G) → IsErr was → IsErr is → HasReplied tells old new text was → HasReplied tells old new text is
+replied_failed tells old new text (Ok x) is a b h = absurd (true≢false (sym a))
+replied_failed tells old new text (Err e) (Ok y) a b h = absurd (true≢false (sym b))
+replied_failed tells old new text (Err e) (Err f) a b h = record {
+  all = tt;
+  front = h.front;
+  left = h.left;
+  asked = h.asked;
+  cause = record { later = h.cause.later; failed = h.cause.failed };
+}
+
+-- One more line was heard and answered, or its answer was only begun where a call of the link failed.
+pub record HasSaid {L E T F : Type 0} (tells : LinkTells L) (answers begins : Answer E → Type 0) (was before link : L) (exchanges : List Exchange) (start : ℕ) (seen : List E) (result : Result T F) : Type 0 where
+  pub x : Exchange
+  pub heard : HeardAll (tells.left was) (tells.left link) (map (λ x. x.line) (exchanges ++ x ∷ []))
+  pub all : OnOk result (Appends (tells.replied was) (tells.replied link) (texts_of (exchanges ++ x ∷ [])))
+  pub front : AppendsFront (tells.replied was) (tells.replied link) (texts_of (exchanges ++ x ∷ []))
+  pub asked : tells.asked link ≡ asked_again (tells.asked before) other
+  pub cause : HasCause (tells.faults was) (tells.faults link) result
+  pub answered : OnOk result (AreExchanged answers seen start (exchanges ++ x ∷ []) (length seen))
+  pub served : AreExchanged answers seen start (exchanges ++ x ∷ []) (length seen) ⊎ EndBegun answers begins seen start (exchanges ++ x ∷ []) (length seen)
+
+module _ {L E : Type 0} (tells : LinkTells L) (answers begins : Answer E → Type 0) (was before mid link : L) (exchanges : List Exchange) (start : ℕ) (seen longer : List E) (x : Exchange)
+    (heard : HeardAll (tells.left was) (tells.left mid) (map (λ x. x.line) (exchanges ++ x ∷ []))) (sent : Appends (tells.replied was) (tells.replied mid) (texts_of exchanges))
+    (asked : tells.asked mid ≡ asked_again (tells.asked before) other) (later : tells.faults was ≤ tells.faults mid)
+    (answered : AreExchanged answers seen start exchanges (length seen)) (grows : IsPrefix seen longer) where
+  begun_more : {T F : Type 0} (result : Result T F) → IsSaid answers begins longer (length seen) (length longer) x result
+      → AreExchanged answers longer start (exchanges ++ x ∷ []) (length longer) ⊎ EndBegun answers begins longer start (exchanges ++ x ∷ []) (length longer)
+  begun_more result (inl e) = inl (exchanged_more answers seen longer start exchanges x grows answered e)
+  begun_more result (inr e) = inr (record {
+    front = exchanges;
+    last = x;
+    are = refl;
+    mid = length seen;
+    end = length longer;
+    answered = all_on answers seen longer start (length seen) exchanges grows answered;
+    begun = e.1;
+    until = omega arith;
+  })
+
+  pub has_said : {T F : Type 0} (result : Result T F) → HasReplied tells mid link x.text result → IsSaid answers begins longer (length seen) (length longer) x result
+      → HasSaid tells answers begins was before link exchanges start longer result
+  has_said (Ok v) r (inl e) =
+      let more = exchanged_more answers seen longer start exchanges x grows answered e in
+      record {
+        x = x;
+        heard = heard_still (tells.left was) (tells.left mid) (tells.left link) (map (λ x. x.line) (exchanges ++ x ∷ [])) heard r.left;
+        all = replied_more (tells.replied was) (tells.replied mid) (tells.replied link) exchanges x sent r.all;
+        front = front_replied (tells.replied was) (tells.replied mid) (tells.replied link) exchanges x sent r.front;
+        asked = r.asked ∙ asked;
+        cause = record { later = (let c = r.cause.later in omega (arith, later, c)); failed = tt };
+        answered = more;
+        served = inl more;
+      }
+  has_said (Ok v) r (inr e) = absurd (true≢false (sym e.0))
+  has_said {T} {F} (Err v) r said = record {
+    x = x;
+    heard = heard_still (tells.left was) (tells.left mid) (tells.left link) (map (λ x. x.line) (exchanges ++ x ∷ [])) heard r.left;
+    all = tt;
+    front = front_replied (tells.replied was) (tells.replied mid) (tells.replied link) exchanges x sent r.front;
+    asked = r.asked ∙ asked;
+    cause = record { later = (let c = r.cause.later in omega (arith, later, c)); failed = rose_after (tells.faults was) (tells.faults mid) (tells.faults link) later r.cause.failed };
+    answered = tt;
+    served = begun_more {T = T} {F = F} (Err v) said;
   }

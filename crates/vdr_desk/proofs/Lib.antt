@@ -1,3 +1,4 @@
 pub mod Lists
 pub mod Exchanged
+mod Going
 pub mod Conversing

@@ -1,7 +1,8 @@
 -- Lines that a link gave and what they were answered, in a history of events (this project's profile).
-use Rattle.std.specs.Prelude.{◌≡◌, ◌≤◌, ◌⊎◌, ℕ, suc, List, [], ◌∷◌, ◌++◌, length, codes, flat_map, Option, Some, IfSome}
+use Rattle.std.specs.Prelude.{◌≡◌, ◌≤◌, ◌⊎◌, ℕ, List, [], ◌∷◌, ◌++◌, length, codes, flat_map, Option, Some, IfSome, Result, IsErr}
 use Rattle.vdr_control.specs.Orders.{PlainOrder}
 use Rattle.vdr_control.specs.Lines.{AsksFor}
+use Rattle.vdr_desk.specs.Answers.{Answer, seen_by}
 
 -- The line asks for nothing.
 abbrev pub no_order_line : List ℕ
@@ -22,21 +23,20 @@ pub record IsRefused (from to : ℕ) (x : Exchange) : Type 0 where
   pub text_is : x.text ≡ no_order_line
   pub later : from ≤ to
 
-module _ {E : Type 0} (answers : List E → E → PlainOrder → List ℕ → Type 0) (history : List E) where
-  -- It asks for an order, which is one event of the history, at this place or behind it, and the last one that was seen as it was answered.
-  -- The answer is judged by the events before that.
+module _ {E : Type 0} (answers : Answer E → Type 0) (history : List E) where
+  -- It asks for an order, which is one event of the history, at this place or behind it. The last turn of its answer is the last event that
+  -- was seen as it was answered.
   pub record IsOrdered (from to : ℕ) (x : Exchange) : Type 0 where
     pub line : List ℕ
-    pub order : PlainOrder
-    pub line_is : x.line ≡ Some line
-    pub asks : AsksFor line order
-    pub before : List E
-    pub own : E
+    pub answer : Answer E
     pub behind : List E
-    pub split : history ≡ before ++ own ∷ behind
-    pub later : from ≤ length before
-    pub next : to ≡ suc (length before)
-    pub answered : answers before own order x.text
+    pub line_is : x.line ≡ Some line
+    pub asks : AsksFor line answer.order
+    pub split : history ≡ seen_by answer ++ behind
+    pub later : from ≤ length answer.before
+    pub next : to ≡ length (seen_by answer)
+    pub text_is : x.text ≡ answer.text
+    pub answered : answers answer
 
   abbrev pub IsExchanged : (from to : ℕ) → Exchange → Type 0
   IsExchanged from to x = IsOrdered from to x ⊎ IsRefused from to x
@@ -45,3 +45,23 @@ module _ {E : Type 0} (answers : List E → E → PlainOrder → List ℕ → Ty
   abbrev pub AreExchanged : (from : ℕ) → List Exchange → (to : ℕ) → Type 0
   AreExchanged from [] to = from ≤ to
   AreExchanged from (x ∷ xs) to = (mid : ℕ) × IsExchanged from mid x × AreExchanged mid xs to
+
+module _ {E : Type 0} (answers begins : Answer E → Type 0) (history : List E) where
+  -- It was answered, or only begun where a call of the link failed.
+  abbrev pub IsSaid : {T F : Type 0} → (from to : ℕ) → Exchange → Result T F → Type 0
+  IsSaid from to x result = IsExchanged answers history from to x ⊎ (IsErr result × IsOrdered begins history from to x)
+
+  -- All are answered but the last, an order whose answer was only begun.
+  pub record EndBegun (from : ℕ) (exchanges : List Exchange) (to : ℕ) : Type 0 where
+    pub front : List Exchange
+    pub last : Exchange
+    pub are : exchanges ≡ front ++ last ∷ []
+    pub mid : ℕ
+    pub end : ℕ
+    pub answered : AreExchanged answers history from front mid
+    pub begun : IsOrdered begins history mid end last
+    pub until : end ≤ to
+
+  -- All are answered; or all but the last, which was only begun, since its link failed.
+  abbrev pub AreServed : (failed : Type 0) → (from : ℕ) → List Exchange → (to : ℕ) → Type 0
+  AreServed failed from exchanges to = AreExchanged answers history from exchanges to ⊎ (failed × EndBegun from exchanges to)

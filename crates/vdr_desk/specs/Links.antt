@@ -1,9 +1,10 @@
 -- What goes over a link in several calls.
-use Rattle.std.specs.Prelude.{◌≡◌, ◌≢◌, ◌≤◌, ◌<◌, ◌⊎◌, ℕ, List, length, map, nat_lt, if◌then◌else◌, Option, Some, None}
+use Rattle.std.specs.Prelude.{◌≡◌, ◌≢◌, ◌≤◌, ◌<◌, ◌⊎◌, ℕ, List, length, map, nat_lt, if◌then◌else◌, Option, Some, None, Result, OnOk}
 use Rattle.std.specs.Io.KnownBytes.{Appends}
 use Rattle.vdr_outside.specs.Calls.{Asked, asked_again, ended, failed}
-use Rattle.vdr_outside.specs.Causes.{Rose}
+use Rattle.vdr_outside.specs.Causes.{HasCause, Rose}
 use Rattle.vdr_outside.specs.Hears.{bare}
+use Rattle.vdr_outside.specs.Told.{Stays}
 use Rattle.vdr_outside.specs.Writes.{AppendsFront}
 use Rattle.vdr_outside.specs.declared.link.Link.{Ghosts as LinkTells}
 use Rattle.vdr_capture.specs.Gives.{LosesAll, NothingLeft, asked_often}
@@ -28,7 +29,15 @@ EndsBy turns others old new Ended = (others < turns) × (new ≡ asked_again (as
 EndsBy turns others old new Failed = ((others < turns) × (new ≡ asked_again (asked_often others old) failed)) ⊎ ((others ≤ turns) × (new ≡ asked_often others old))
 EndsBy turns others old new Turns = (others ≡ turns) × (new ≡ asked_often others old)
 
--- In at most so many calls for a line the link gave these lines, and each was answered, but for the last where its reply failed.
+-- The link took these bytes, in one call or in several, and a front of them where the last call failed.
+pub record HasReplied {L T F : Type 0} (tells : LinkTells L) (old new : L) (text : List ℕ) (result : Result T F) : Type 0 where
+  pub all : OnOk result (Appends (tells.replied old) (tells.replied new) text)
+  pub front : AppendsFront (tells.replied old) (tells.replied new) text
+  pub left : Stays (tells.left old) (tells.left new)
+  pub asked : tells.asked new ≡ tells.asked old
+  pub cause : HasCause (tells.faults old) (tells.faults new) result
+
+-- In at most so many calls for a line the link gave these lines, and each was answered, but for the last where a reply to it failed.
 pub record Converses {L : Type 0} (tells : LinkTells L) (turns : ℕ) (old new : L) (exchanges : List Exchange) (cause : Cause) : Type 0 where
   pub others : ℕ
   pub heard : HeardAll (tells.left old) (tells.left new) (map (λ x. x.line) exchanges)

@@ -1,99 +1,127 @@
-// Orders: what a worker has done in a turn at the latch.
-ghost use Rattle.std.specs.Prelude.{◌≡◌, ◌≤◌, ◌+◌, ◌++◌, ◌∷◌, [], ℕ, List, Some, false, length};
+// Orders: what a worker has done in the turns of one at the latch.
+ghost use Rattle.std.specs.Prelude.{◌≡◌, ◌<◌, ◌++◌, ◌∷◌, [], ℕ, List, Some, IfSome, false, length};
 ghost use mathlib.Core.List.{IsPrefix};
 ghost use Rattle.vdr_control.specs.Lines.{AsksFor};
 ghost use Rattle.vdr_control.specs.Orders.{PlainOrder, plain};
-ghost use Rattle.vdr_desk.specs.Exchanges.{IsExchanged, IsOrdered};
+ghost use Rattle.vdr_desk.specs.Answers.{HasTold};
 
-use crate::Reply;
+use crate::{Answers, Reply};
 use std::alloc::Global;
 use std::sync::Wait;
-use vdr_control::{Order, read_order};
-use vdr_latch::{Job, Latch, LatchPass, Stepped};
+use vdr_control::Order;
+use vdr_latch::{Job, Latch, LatchPass};
+use vdr_piece::Piece;
 
-/// A value under a latch that answers orders.
-pub trait Answers: Stepped {
-    /// The event of an order, by the number of the desk that asks, the value before, the order, its reply, and the value after.
-    ghost event: { ℕ → Self → PlainOrder → List ℕ → Self → Self.Event };
-
-    /// What it means that an order of the desk of this number is answered so, by the events before its own, and that.
-    ghost answers: { ℕ → List Self.Event → Self.Event → PlainOrder → List ℕ → Type 0 };
-
-    /// Answers an order that a line asks for. It is one event, which is not a leading one.
-    fn answer(&mut self, alloc: Global, order: Order<'_>) -> Reply
-        requires left { (history : List Self.Event) × Self.leaves history self.old }
-        requires asked { (line : List ℕ) × AsksFor line (plain order) }
-        ensures leaves { (desk : ℕ) (history : List Self.Event) → Self.leaves history self.old → Self.leaves (history ++ event desk self.old (plain order.entry) result self.new ∷ []) self.new }
-        ensures follows { (desk : ℕ) → Self.leading (event desk self.old (plain order.entry) result self.new) ≡ false }
-        ensures answers { (desk : ℕ) (history : List Self.Event) → Self.leaves history self.old → answers desk history (event desk self.old (plain order.entry) result self.new) (plain order.entry) result };
-}
-
-/// An order of the desk of this number, and its reply.
+/// An order of the desk of this number, what it is told in its own turn, and what is left of its answer.
 #[derive(Drop)]
-struct Ask<'a> {
+struct Ask<'a, T: Answers> {
     alloc: Global,
     desk: usize,
     order: Order<'a>,
     reply: Reply,
+    rest: Option<T::Rest>,
 }
 
-impl<'a, T: Answers> Job<T> for Ask<'a> {
+impl<'a, T: Answers> Job<T> for Ask<'a, T> {
+    ghost use Rattle.vdr_desk.specs.Answers.{ToldSoFar};
+
     ghost asks = { λ j x. ((history : List T.Event) × T.leaves history x) × ((line : List ℕ) × AsksFor line (plain j.order)) };
 
     ghost event = { λ j x l y. T.event j.desk x (plain j.order) l.reply y };
 
     ghost relates = { λ j x l y. (T.leading (T.event j.desk x (plain j.order) l.reply y) ≡ false)
-        × ((history : List T.Event) → T.leaves history x → T.answers j.desk history (T.event j.desk x (plain j.order) l.reply y) (plain j.order) l.reply) };
+        × ((history : List T.Event) → T.leaves history x
+        → ToldSoFar (T.answers j.desk) (T.waits j.desk) (record { order = plain j.order; before = history; own = T.event j.desk x (plain j.order) l.reply y; during = []; text = l.reply }) l.rest) };
 
     fn work(&mut self, value: &mut T) {
-        self.reply = value.answer(self.alloc, self.order);
+        let (reply, rest) = value.answer(self.alloc, self.order);
+        self.reply = reply;
+        self.rest = rest;
     }
 }
 
-// Asks for an order in a turn at the latch.
-fn take_turn<T: Answers, R: Wait>(
+/// What is left of an answer at the desk of this number, as it goes on in a further turn.
+#[derive(Drop)]
+struct GoOn<'p, T: Answers> {
+    desk: usize,
+    rest: Option<T::Rest>,
+    piece: &'p mut Piece,
+}
+
+impl<'p, T: Answers> Job<T> for GoOn<'p, T> {
+    ghost use Rattle.vdr_desk.specs.Answers.{Answer, ToldSoFar, seen_by, told_on};
+
+    ghost asks = { λ j x. (rest : T.Rest) × (j.rest ≡ Some rest) × (j.piece.now.bytes.items ≡ [])
+        × ((before : Answer T.Event) × (later : List T.Event) × T.waits j.desk before rest × T.leaves (seen_by before ++ later) x) };
+
+    ghost event = { λ j x l y. T.step j.desk x y };
+
+    ghost relates = { λ j x l y. (T.leading (T.step j.desk x y) ≡ false)
+        × ((rest : T.Rest) → j.rest ≡ Some rest → IfSome l.rest (λ after. T.left after < T.left rest)
+        × ((before : Answer T.Event) (later : List T.Event) → T.waits j.desk before rest → T.leaves (seen_by before ++ later) x
+        → ToldSoFar (T.answers j.desk) (T.waits j.desk) (told_on before (later ++ T.step j.desk x y ∷ []) l.piece.now.bytes.items) l.rest)) };
+
+    fn work(&mut self, value: &mut T) {
+        match self.rest.take() {
+            Some(rest) => self.rest = value.go_on(rest, self.piece),
+            None => unreachable!(),
+        }
+    }
+}
+
+/// Asks for an order at the desk of this number, in a turn at the latch: what it is told in that, and what is left of its answer.
+pub(crate) fn take_turn<T: Answers, R: Wait>(
     rt: &R,
     latch: &Latch<T>,
     alloc: Global,
     pass: &mut LatchPass<T::Event>,
     desk: usize,
     order: Order<'_>,
-) -> Reply
+) -> (Reply, Option<T::Rest>)
     requires latch { pass.old.latch ≡ latch.now }
     requires follows { pass.old.leads ≡ false }
     requires asked { (line : List ℕ) × AsksFor line (plain order) }
     ensures pass { (pass.new.latch ≡ pass.old.latch) × (pass.new.parts ≡ pass.old.parts) × (pass.new.leads ≡ pass.old.leads) }
     ensures seen { IsPrefix pass.old.seen pass.new.seen }
-    ensures answered { (line : List ℕ) → AsksFor line (plain order.entry) → IsOrdered (T.answers desk) pass.new.seen (length pass.old.seen) (length pass.new.seen) (record { line = Some line; text = result }) }
+    ensures told { HasTold (T.answers desk) (T.waits desk) (length pass.old.seen) (plain order.entry) pass.new.seen result.0 result.1 }
 {
-    let mut asking = Ask {
+    let mut asking = Ask::<T> {
         alloc,
         desk,
         order,
         reply: Reply::empty(),
+        rest: None,
     };
-    latch.turn::<Ask, R>(rt, pass, &mut asking);
-    let Ask { reply, .. } = asking;
-    reply
+    latch.turn::<Ask<T>, R>(rt, pass, &mut asking);
+    let Ask { reply, rest, .. } = asking;
+    (reply, rest)
 }
 
-/// The reply to a line at the desk of this number: an order is asked for in a turn at the latch, and any other line is refused without one.
-pub(crate) fn reply_to<T: Answers, R: Wait>(
+/// Goes on with an answer at the desk of this number, in a further turn at the latch: the piece that is told in that, and what is left.
+pub(crate) fn take_further_turn<'p, T: Answers, R: Wait>(
     rt: &R,
     latch: &Latch<T>,
-    alloc: Global,
     pass: &mut LatchPass<T::Event>,
     desk: usize,
-    line: &[u8],
-) -> Reply
+    rest: T::Rest,
+    piece: &'p mut Piece,
+) -> (&'p mut Piece, Option<T::Rest>)
     requires latch { pass.old.latch ≡ latch.now }
     requires follows { pass.old.leads ≡ false }
+    requires waits { (from : ℕ) × (order : PlainOrder) × (text : List ℕ) × HasTold (T.answers desk) (T.waits desk) from order pass.old.seen text (Some rest) }
     ensures pass { (pass.new.latch ≡ pass.old.latch) × (pass.new.parts ≡ pass.old.parts) × (pass.new.leads ≡ pass.old.leads) }
     ensures seen { IsPrefix pass.old.seen pass.new.seen }
-    ensures exchanged { IsExchanged (T.answers desk) pass.new.seen (length pass.old.seen) (length pass.new.seen) (record { line = Some line.now; text = result }) }
+    ensures falls { IfSome result.1 (λ after. T.left after < T.left rest) }
+    ensures told { (from : ℕ) (order : PlainOrder) (text : List ℕ) → HasTold (T.answers desk) (T.waits desk) from order pass.old.seen text (Some rest)
+        → HasTold (T.answers desk) (T.waits desk) from order pass.new.seen (text ++ result.0.now.bytes.items) result.1 }
 {
-    match read_order(line) {
-        Some(order) => take_turn(rt, latch, alloc, pass, desk, order),
-        None => Reply::no_order(),
-    }
+    piece.clear();
+    let mut going = GoOn::<T> {
+        desk,
+        rest: Some(rest),
+        piece,
+    };
+    latch.turn::<GoOn<T>, R>(rt, pass, &mut going);
+    let GoOn { rest, piece, .. } = going;
+    (piece, rest)
 }

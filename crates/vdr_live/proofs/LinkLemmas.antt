@@ -1,18 +1,20 @@
 -- What a session says of its desks, said of what their links tell.
-use Rattle.std.proofs.Common.{◌≡◌, ◌≢◌, ◌⊎◌, inl, inr, ◌≤◌, ◌<◌, ◌++◌, ◌∷◌, ℕ, Bool, true, false, List, [], length, map, get_or, Option, None, refl, sym, ap, ◌∙◌, subst, arith}
+use Rattle.std.proofs.Common.{◌≡◌, ◌≢◌, ◌⊎◌, inl, inr, ◌≤◌, ◌<◌, ◌++◌, ◌∷◌, ℕ, Bool, true, false, List, [], length, map, get_or, Option, Some, None, refl, sym, ap, ◌∙◌, subst, arith}
 use Rattle.std.proofs.lemmas.List.{get_or-map, length-map}
 use Rattle.vdr_core.specs.Histories.{Event, Opening}
 use Rattle.vdr_outside.specs.declared.link.Link.{Ghosts as LinkTells}
 use Rattle.vdr_config.specs.Configuration.{Selector}
 use Rattle.vdr_capture.specs.declared.lane.Cause.{Cause}
+use Rattle.vdr_capture.specs.declared.lane.Cause.TheVariants.{Failed}
 use Rattle.vdr_capture.specs.declared.lane.Lane.{Lane}
 use Rattle.vdr_capture.specs.declared.sums.Outcome.{Outcome}
 use Rattle.vdr_capture.specs.declared.sums.Outcome.TheVariants.{Done, NoMemory, Place, Tick, MediaFault, PortFault, LinkFault}
 use Rattle.vdr_desk.specs.declared.desk.Desk.{Desk}
-use Rattle.vdr_desk.specs.Exchanges.{Exchange}
+use Rattle.vdr_desk.specs.Exchanges.{AreServed, Exchange}
 use Rattle.vdr_desk.specs.Links.{Converses}
 use Rattle.vdr_session.specs.declared.mark.Mark.{Mark}
 use Rattle.vdr_session.specs.Desks.{DesksReplied, DesksTold, FailureTold, HasSpoken}
+use Rattle.vdr_session.specs.Origins.{IsAnswerOf, IsBegunOf}
 use Rattle.vdr_session.specs.Sessions.{is_closed}
 use Rattle.vdr_live.specs.Links.{AreReplied, AsksLinks, LinkIn, LinkSeen, TellsLinkFailure, as_seen, seen_link, seen_links}
 use Rattle.vdr_live.proofs.PortLemmas.{first_of}
@@ -99,6 +101,7 @@ module _ {L : Type 0} (tells : LinkTells L) where
           cause = causes_of new i;
           exchanges = r.exchanges;
           spoken = spoken_at turns outcome old new as_many i e d below r.exchanges r.spoken;
-          answered = r.answered;
+          answered = subst (λ (c : Option Cause). AreServed (IsAnswerOf channels replied.origins i opening) (IsBegunOf channels replied.origins i opening) events (c ≡ Some Failed) 0 r.exchanges (length events))
+              (sym (cause_at new i e (omega (arith, below, as_many)))) r.answered;
         };
   }

@@ -10,10 +10,10 @@ use Rattle.vdr_capture.specs.declared.lane.Cause.TheVariants.{Failed}
 use Rattle.vdr_capture.specs.declared.sums.Outcome.{Outcome}
 use Rattle.vdr_capture.specs.declared.sums.Outcome.TheVariants.{Done, NoMemory, Place, Tick, MediaFault, PortFault, LinkFault}
 use Rattle.vdr_desk.specs.declared.desk.Desk.{Desk}
-use Rattle.vdr_desk.specs.Exchanges.{AreExchanged, Exchange}
+use Rattle.vdr_desk.specs.Exchanges.{AreServed, Exchange}
 use Rattle.vdr_desk.specs.Links.{Converses}
 use Rattle.vdr_session.specs.declared.mark.Mark.{Mark}
-use Rattle.vdr_session.specs.Origins.{IsAnswerOf, Origin, RoseBy, failures_in}
+use Rattle.vdr_session.specs.Origins.{IsAnswerOf, IsBegunOf, Origin, RoseBy, failures_in}
 use Rattle.vdr_session.specs.Sessions.{is_closed}
 
 -- A link: the lines left and the bytes replied, where it tells them, how often it was asked for a line, and how often it failed.
@@ -61,12 +61,13 @@ pub record AsksLinks (turns : ℕ) (old new : List LinkSeen) (outcome : Outcome)
   pub failure : TellsLinkFailure outcome (length old) causes
 
 -- What was answered over the link of this number stands in the history: each order is one event of its own there, at rising places, and its
--- reply is a function of the events before that. A play may be cut short where a call on the media failed in its own event.
+-- reply is a function of the events before that. A play goes on in further events. It may be cut short where a call on the media failed in the
+-- last of these, or where what was left of it is not retained any more. Where the link failed the last reply may be only begun.
 pub record IsReplied (turns : ℕ) (channels : List Selector) (origins : List Origin) (number : ℕ) (outcome : Outcome) (opening : Opening) (events : List Event) (old new : LinkSeen) : Type 0 where
   pub cause : Option Cause
   pub exchanges : List Exchange
   pub spoken : LinkIn turns (is_closed outcome) old new cause exchanges
-  pub answered : AreExchanged (IsAnswerOf channels origins number opening) events 0 exchanges (length events)
+  pub answered : AreServed (IsAnswerOf channels origins number opening) (IsBegunOf channels origins number opening) events (cause ≡ Some Failed) 0 exchanges (length events)
 
 -- So it is over each link. No event is an order of two links, and the media's count of faults rose for each event in which a call failed.
 pub record AreReplied (turns : ℕ) (channels : List Selector) (faults_old faults_new : ℕ) (outcome : Outcome) (opening : Opening) (events : List Event) (old new : List LinkSeen) : Type 0 where

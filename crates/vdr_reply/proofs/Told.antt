@@ -89,7 +89,7 @@ has_so false true there is all = absurd (true≢false (sym all ∙ is))
 -- What an order is that has records told.
 module _ (channels : List Selector) (opening : Opening) (events : List Event) (query : Query) (told : List Record → List ℕ) where
   medium_is : (order : PlainOrder) → AsksToTell channels opening events order query told → (medium : Medium) × (query.medium ≡ asked_medium medium)
-  medium_is (PlayOrder medium name from to) a = (medium, ap (λ (q : Query). q.medium) a.1)
+  medium_is (PlayOrder medium name from to) a = absurd a
   medium_is (EvidenceOrder id) a = (AnIncident id, ap (λ (q : Query). q.medium) a.0)
   medium_is (TellOrder medium telling) a = (medium, ap (λ (q : Query). q.medium) a.0)
   medium_is StatusOrder a = absurd a
@@ -100,7 +100,7 @@ module _ (channels : List Selector) (opening : Opening) (events : List Event) (q
   medium_is (ExportOrder medium name from to exporting) a = absurd a
 
   pub channel_is : (order : PlainOrder) → AsksToTell channels opening events order query told → lacks_channel (length channels) query.channel ≡ false
-  channel_is (PlayOrder medium name from to) a = ap (λ (q : Query). lacks_channel (length channels) q.channel) a.1 ∙ asked_within channels medium name from to
+  channel_is (PlayOrder medium name from to) a = absurd a
   channel_is (EvidenceOrder id) a = ap (λ (q : Query). lacks_channel (length channels) q.channel) a.0
   channel_is (TellOrder medium telling) a = ap (λ (q : Query). lacks_channel (length channels) q.channel) a.0
   channel_is StatusOrder a = absurd a
@@ -111,7 +111,7 @@ module _ (channels : List Selector) (opening : Opening) (events : List Event) (q
   channel_is (ExportOrder medium name from to exporting) a = absurd a
 
   looks : (order : PlainOrder) → AsksToTell channels opening events order query told → act_after opening events order ≡ Look
-  looks (PlayOrder medium name from to) a = refl
+  looks (PlayOrder medium name from to) a = absurd a
   looks (EvidenceOrder id) a = refl
   looks (TellOrder medium telling) a = refl
   looks StatusOrder a = absurd a
@@ -122,7 +122,7 @@ module _ (channels : List Selector) (opening : Opening) (events : List Event) (q
   looks (ExportOrder medium name from to exporting) a = absurd a
 
   changes_none : (vault : VaultState) (order : PlainOrder) → AsksToTell channels opening events order query told → (not vault.failed && is_granted order vault) ≡ false
-  changes_none vault (PlayOrder medium name from to) a = and_false vault.failed
+  changes_none vault (PlayOrder medium name from to) a = absurd a
   changes_none vault (EvidenceOrder id) a = and_false vault.failed
   changes_none vault (TellOrder medium telling) a = and_false vault.failed
   changes_none vault StatusOrder a = absurd a
@@ -134,7 +134,7 @@ module _ (channels : List Selector) (opening : Opening) (events : List Event) (q
 
   spells_page : (met_fault : Type 0) (said text : List ℕ) (order : PlainOrder) → AsksToTell channels opening events order query told
       → (text ≡ said) ⊎ (((text ≡ fault_line) × met_fault) ⊎ LacksMemory said text) → Spells met_fault order said text
-  spells_page met_fault said text (PlayOrder medium name from to) a is = is
+  spells_page met_fault said text (PlayOrder medium name from to) a is = absurd a
   spells_page met_fault said text (EvidenceOrder id) a is = is
   spells_page met_fault said text (TellOrder medium telling) a is = is
   spells_page met_fault said text StatusOrder a is = absurd a
@@ -147,13 +147,7 @@ module _ (channels : List Selector) (opening : Opening) (events : List Event) (q
   -- the text where what is asked for is there
   paged : (order : PlainOrder) → AsksToTell channels opening events order query told → is_there members opening events query.medium ≡ true
       → text_after nothing_gauged channels opening events order ≡ page_text (told (selected opening events query))
-  paged (PlayOrder medium name from to) a there =
-      let q = query_of channels medium name from to in
-      let here : is_there members opening events q.medium ≡ true = subst (λ (q : Query). is_there members opening events q.medium ≡ true) a.1 there in
-      ap (λ (b : Bool). text_of (play_reply b (is_there members opening events q.medium) (refusal_of q.medium) (selected opening events q))) a.0
-      ∙ ap (λ (b : Bool). text_of (play_reply true b (refusal_of q.medium) (selected opening events q))) here
-      ∙ ap (λ (q : Query). page_text (records_text nothing_seen (selected opening events q))) (sym a.1)
-      ∙ ap page_text (sym (a.2 (selected opening events query)))
+  paged (PlayOrder medium name from to) a there = absurd a
   paged (EvidenceOrder id) a there =
       let q = save_query id in
       let lines = evidence_lines opening events id in
@@ -177,11 +171,7 @@ module _ (channels : List Selector) (opening : Opening) (events : List Event) (q
   -- and where it is an incident that is not live
   missing : (order : PlainOrder) → AsksToTell channels opening events order query told → is_there members opening events query.medium ≡ false → refusal_of query.medium ≡ NoIncident
       → text_after nothing_gauged channels opening events order ≡ not_there_line
-  missing (PlayOrder medium name from to) a none refusal =
-      let q = query_of channels medium name from to in
-      ap (λ (b : Bool). text_of (play_reply b (is_there members opening events q.medium) (refusal_of q.medium) (selected opening events q))) a.0
-      ∙ ap (λ (b : Bool). text_of (play_reply true b (refusal_of q.medium) (selected opening events q))) (subst (λ (q : Query). is_there members opening events q.medium ≡ false) a.1 none)
-      ∙ ap text_of (subst (λ (q : Query). refusal_of q.medium ≡ NoIncident) a.1 refusal)
+  missing (PlayOrder medium name from to) a none refusal = absurd a
   missing (EvidenceOrder id) a none refusal =
       let q = save_query id in
       let lines = evidence_lines opening events id in

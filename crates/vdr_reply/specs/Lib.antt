@@ -2,4 +2,5 @@
 pub mod Texts
 pub mod Exports
 pub mod Orders
+pub mod Plays
 pub mod Answers

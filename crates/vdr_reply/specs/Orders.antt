@@ -89,10 +89,9 @@ act_after opening events (Evidence id) = Act.Look
 act_after opening events (Tell medium telling) = Act.Look
 act_after opening events (Export medium name from to exporting) = Act.Look
 
--- After these events the order has the records of this query told by this text.
+-- After these events the order has the records of this query told by this text, in one turn.
 abbrev pub AsksToTell : List Selector → Opening → List Event → PlainOrder → Query → (List Record → List ℕ) → Type 0
-AsksToTell channels opening events (Play medium name from to) query told =
-    (is_named channels name ≡ true) × (query ≡ query_of channels medium name from to) × ((records : List Record) → told records ≡ records_text nothing_seen records)
+AsksToTell channels opening events (Play medium name from to) query told = ⊥
 AsksToTell channels opening events (Evidence id) query told = (query ≡ save_query id) × ((records : List Record) → told records ≡ evidence_lines opening events id records)
 AsksToTell channels opening events (Tell medium telling) query told = (query ≡ query_told medium telling) × ((records : List Record) → told records ≡ told_text telling records)
 AsksToTell channels opening events Status query told = ⊥

@@ -39,6 +39,10 @@ id_line id = codes "OK " ++ decimal id ++ codes "\n"
 abbrev pub done_line : List ℕ
 done_line = codes "OK\n"
 
+-- From this place on records of a play were written over before they were sent.
+unfoldable pub gone_line : (place : ℕ) → List ℕ
+gone_line place = codes "GONE " ++ decimal place ++ codes "\n"
+
 -- What is told, and a point on a line of its own behind it.
 unfoldable pub page_text : (told : List ℕ) → List ℕ
 page_text told = done_line ++ told ++ codes ".\n"

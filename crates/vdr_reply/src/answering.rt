@@ -14,9 +14,8 @@ ghost use Rattle.vdr_control.specs.Orders.{plain};
 ghost use Rattle.vdr_control.specs.Orders.PlainOrder.{Health as HealthOrder, Release as ReleaseOrder, Save as SaveOrder, Status as StatusOrder};
 ghost use Rattle.vdr_recorder.specs.Recordings.{HasRecorded};
 ghost use Rattle.vdr_recorder.specs.Watched.{IsWatched};
-ghost use Rattle.vdr_reply.specs.Answers.{HasAnswered, HasOrderCause, LeavesRest};
+ghost use Rattle.vdr_reply.specs.Answers.{HasAnswered, HasAnsweredSoFar, HasOrderCause, LeavesRest};
 
-use crate::Gauge;
 use crate::evidencing::answer_evidence;
 use crate::exporting::answer_export;
 use crate::health::answer_health;
@@ -24,6 +23,7 @@ use crate::lines::{FAULT, of_release, of_save, of_state};
 use crate::listing::answer_incidents;
 use crate::playing::{Wanted, answer_play};
 use crate::telling::answer_tell;
+use crate::{Gauge, Rest};
 use std::alloc::Global;
 use vdr_control::Order;
 use vdr_desk::Reply;
@@ -85,13 +85,14 @@ fn answer_release<M: Media, W: Watch<M>>(
     of_release(recorder.release_watched(media, watch, id))
 }
 
-/// Answers an order. It is one event of the recorder's history: a save or a release that is granted, and else a look. The reply is a function
-/// of the history before that event. The watch is told of it before the reply is made, unless it met a fault.
+/// Answers an order, or begins to. It is one event of the recorder's history: a save or a release that is granted, and else a look. The reply is a
+/// function of the history before that event. The watch is told of it before the reply is made, unless it met a fault. Of a play the first line
+/// alone is answered; the rest of it goes on by `go_on`.
 ///
-/// Once the media have failed each order is answered `FAULT 5`, as is the one that met the fault. What is played, told, listed or given as
+/// Once the media have failed each order is answered `FAULT 5`, as is the one that met the fault. What is told, listed or given as
 /// evidence is read into memory: it is answered `FAULT 5` too where a read fails, and `FAULT 9` where there is no memory for its page, or for a table that it tells.
-/// So is a file, which has its bytes in memory beside its page. What is refused needs no memory, but for the parts of an image. How the recording
-/// fares needs none either: it is told by the tally of the run, and by what the watch gauges, of which nothing is promised.
+/// So is a file, which has its bytes in memory beside its page. What is refused needs no memory, but for the parts of an image. A play needs none, and how
+/// the recording fares needs none either: it is told by the tally of the run, and by what the watch gauges, of which nothing is promised.
 pub fn answer<M: Media, W: Watch<M> + Gauge<M>>(
     alloc: Global,
     recorder: &mut Recorder,
@@ -99,13 +100,13 @@ pub fn answer<M: Media, W: Watch<M> + Gauge<M>>(
     watch: &mut W,
     tally: &RunTally,
     order: Order<'_>,
-) -> Reply
+) -> (Reply, Option<Rest>)
     requires rings { AreRings recorder.old.vault (M.disk media.old).sizes }
     requires watched { IsWatched W.hears (W.seen watch.old) recorder.old (M.disk media.old) }
     requires asked { (line : List ℕ) × AsksFor line (plain order) }
     ensures answered { (opening : Opening) (events : List Event) (t0 : ℕ) → M.tells → HasRecorded opening events t0 recorder.old (M.disk media.old)
         → (plain order.entry ≡ HealthOrder → recorder.old.vault.failed ≡ false → KnowsRun (state_left opening events) tally.now)
-        → HasAnswered recorder.old.vault.config.channels (Rose (sum (M.faults media.old)) (sum (M.faults media.new))) opening events t0 (plain order.entry) result recorder.old recorder.new (M.disk media.old) (M.disk media.new) W.hears (W.seen watch.old) (W.seen watch.new) }
+        → HasAnsweredSoFar recorder.old.vault.config.channels (Rose (sum (M.faults media.old)) (sum (M.faults media.new))) opening events t0 (plain order.entry) result.0 result.1 recorder.old recorder.new (M.disk media.old) (M.disk media.new) W.hears (W.seen watch.old) (W.seen watch.new) }
     ensures rest { LeavesRest recorder.old recorder.new }
     ensures rings { AreRings recorder.new.vault (M.disk media.new).sizes }
     ensures others { M.tells → SameElsewhere (M.disk media.old).reads (M.disk media.new).reads }
@@ -114,17 +115,20 @@ pub fn answer<M: Media, W: Watch<M> + Gauge<M>>(
     ensures cause { HasOrderCause recorder.old.vault.failed recorder.new.vault.failed (M.faults media.old) (M.faults media.new) }
 {
     if recorder.failed() {
-        return Reply::of_line(FAULT);
+        return (Reply::of_line(FAULT), None);
     }
     match order {
-        Order::Status => answer_status(recorder, media, watch),
-        Order::Save(label) => answer_save(recorder, media, watch, label),
-        Order::Release(id) => answer_release(recorder, media, watch, id),
-        Order::Incidents => answer_incidents(alloc, recorder, media, watch),
-        Order::Health => answer_health(recorder, media, watch, tally),
-        Order::Evidence(id) => answer_evidence(alloc, recorder, media, watch, id),
+        Order::Status => (answer_status(recorder, media, watch), None),
+        Order::Save(label) => (answer_save(recorder, media, watch, label), None),
+        Order::Release(id) => (answer_release(recorder, media, watch, id), None),
+        Order::Incidents => (answer_incidents(alloc, recorder, media, watch), None),
+        Order::Health => (answer_health(recorder, media, watch, tally), None),
+        Order::Evidence(id) => (answer_evidence(alloc, recorder, media, watch, id), None),
         Order::Tell { medium, telling } => {
-            answer_tell(alloc, recorder, media, watch, medium, telling)
+            (
+                answer_tell(alloc, recorder, media, watch, medium, telling),
+                None,
+            )
         }
         Order::Play {
             medium,
@@ -138,7 +142,7 @@ pub fn answer<M: Media, W: Watch<M> + Gauge<M>>(
                 from,
                 to,
             };
-            answer_play(alloc, recorder, media, watch, wanted)
+            answer_play(recorder, media, watch, wanted)
         }
         Order::Export {
             medium,
@@ -153,7 +157,10 @@ pub fn answer<M: Media, W: Watch<M> + Gauge<M>>(
                 from,
                 to,
             };
-            answer_export(alloc, recorder, media, watch, wanted, exporting)
+            (
+                answer_export(alloc, recorder, media, watch, wanted, exporting),
+                None,
+            )
         }
     }
 }

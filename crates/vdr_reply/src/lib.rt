@@ -7,13 +7,17 @@ mod answering;
 mod evidencing;
 mod exporting;
 mod gauge;
+mod going_on;
 mod health;
 mod lines;
 mod listing;
 mod page;
 mod playing;
 mod refusing;
+mod rest;
 mod telling;
 
 pub use answering::answer;
 pub use gauge::Gauge;
+pub use going_on::go_on;
+pub use rest::Rest;

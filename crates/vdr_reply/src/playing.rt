@@ -1,4 +1,4 @@
-// Playing what was recorded, over a link.
+// Playing what was recorded, over a link: the turn of the order. It prints no record.
 ghost use Rattle.std.specs.Prelude.{◌≡◌, ℕ, List, IfSome, IfNone, false, true, sum};
 ghost use Rattle.vdr_core.specs.Histories.{Event, Opening};
 ghost use Rattle.vdr_outside.specs.Causes.{Rose};
@@ -8,16 +8,18 @@ ghost use Rattle.vdr_vault.specs.Vaults.{AreRings};
 ghost use Rattle.vdr_control.specs.Orders.PlainOrder.{Play as PlayOrder};
 ghost use Rattle.vdr_recorder.specs.Recordings.{HasRecorded};
 ghost use Rattle.vdr_recorder.specs.Watched.{IsWatched};
-ghost use Rattle.vdr_reply.specs.Answers.{HasAnswered, HasOrderCause, LeavesRest};
+ghost use Rattle.vdr_reply.specs.Answers.{HasAnsweredSoFar, HasOrderCause, LeavesRest};
 ghost use Rattle.vdr_reply.specs.Orders.{is_named, query_of};
+ghost use Rattle.vdr_reply.specs.Plays.{BeginsPlay};
 
-use crate::lines::NOT_THERE;
-use crate::telling::tell;
-use std::alloc::Global;
+use crate::Rest;
+use crate::lines::{DAMAGED, FAULT, NOT_THERE};
+use crate::telling::is_there;
 use vdr_desk::Reply;
 use vdr_entry::{Medium, Query};
 use vdr_outside::Media;
-use vdr_recorder::{Player, Recorder, Watch};
+use vdr_recorder::{OpenPlay, Recorder, Watch};
+use vdr_ring::ReadRefused;
 
 /// The channel's name that stands for every record.
 const EVERY: &[u8] = b"all";
@@ -55,20 +57,30 @@ pub(crate) fn query_of(recorder: &Recorder, wanted: Wanted<'_>) -> Option<Query>
     Some(query)
 }
 
-/// Answers a play, on media that have not failed.
+// What the turn comes to: the first line, behind which the records come, or why there is none.
+fn of_begun(begun: Result<OpenPlay, ReadRefused>) -> (Reply, Option<Rest>)
+    ensures { BeginsPlay begun result.0 result.1 }
+{
+    match begun {
+        Ok(play) => (Reply::of_line(b"OK\n"), Some(Rest { play })),
+        Err(ReadRefused::Fault) => (Reply::of_line(FAULT), None),
+        Err(ReadRefused::Damaged { .. }) => (Reply::of_line(DAMAGED), None),
+    }
+}
+
+/// Begins to answer a play, on media that have not failed. Takes no memory.
 pub(crate) fn answer_play<M: Media, W: Watch<M>>(
-    alloc: Global,
     recorder: &mut Recorder,
     media: &mut M,
     watch: &mut W,
     wanted: Wanted<'_>,
-) -> Reply
+) -> (Reply, Option<Rest>)
     requires rings { AreRings recorder.old.vault (M.disk media.old).sizes }
     requires works { recorder.old.vault.failed ≡ false }
     requires watched { IsWatched W.hears (W.seen watch.old) recorder.old (M.disk media.old) }
     ensures answered { (opening : Opening) (events : List Event) (t0 : ℕ) → M.tells → HasRecorded opening events t0 recorder.old (M.disk media.old)
-        → HasAnswered recorder.old.vault.config.channels (Rose (sum (M.faults media.old)) (sum (M.faults media.new))) opening events t0
-        (PlayOrder wanted.entry.medium wanted.entry.name.now wanted.entry.from wanted.entry.to) result recorder.old recorder.new (M.disk media.old) (M.disk media.new) W.hears (W.seen watch.old) (W.seen watch.new) }
+        → HasAnsweredSoFar recorder.old.vault.config.channels (Rose (sum (M.faults media.old)) (sum (M.faults media.new))) opening events t0
+        (PlayOrder wanted.entry.medium wanted.entry.name.now wanted.entry.from wanted.entry.to) result.0 result.1 recorder.old recorder.new (M.disk media.old) (M.disk media.new) W.hears (W.seen watch.old) (W.seen watch.new) }
     ensures rest { LeavesRest recorder.old recorder.new }
     ensures rings { AreRings recorder.new.vault (M.disk media.new).sizes }
     ensures others { M.tells → SameElsewhere (M.disk media.old).reads (M.disk media.new).reads }
@@ -78,7 +90,11 @@ pub(crate) fn answer_play<M: Media, W: Watch<M>>(
 {
     let Some(query) = query_of(recorder, wanted) else {
         recorder.look_watched(media, watch);
-        return Reply::of_line(NOT_THERE);
+        return (Reply::of_line(NOT_THERE), None);
     };
-    tell(alloc, recorder, media, watch, &query, &mut Player::new())
+    if !is_there(recorder, &query) {
+        recorder.look_watched(media, watch);
+        return (Reply::of_line(NOT_THERE), None);
+    }
+    of_begun(recorder.begin_play_watched(media, watch, &query))
 }

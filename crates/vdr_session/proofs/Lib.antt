@@ -6,6 +6,8 @@ pub mod Served
 pub mod Marked
 pub mod HeldRuns
 pub mod Told
+pub mod Over
+pub mod Spelled
 pub mod Origins
 pub mod Gathered
 pub mod LanesRan

@@ -5,8 +5,8 @@ use Rattle.vdr_intake.specs.Ends.{QueueId, Taking}
 use Rattle.vdr_outside.specs.declared.port.Port.{Ghosts as PortTells}
 use Rattle.vdr_outside.specs.declared.link.Link.{Ghosts as LinkTells}
 use Rattle.vdr_capture.specs.declared.lane.Lane.{Lane}
-use Rattle.vdr_control.specs.Orders.{PlainOrder}
 use Rattle.vdr_desk.specs.declared.desk.Desk.{Desk}
+use Rattle.vdr_desk.specs.Answers.{Answer}
 use Rattle.vdr_desk.specs.Desks.{HasServed}
 use Rattle.vdr_session.specs.declared.mark.Mark.{Mark}
 use Rattle.vdr_session.specs.declared.records.Began.{Began}
@@ -42,7 +42,7 @@ pub record HasClosed {P : Type 0} (tells : PortTells P) (turns : ℕ) (configure
   pub refused : (began ≡ Begun → ⊥) → NotBegun began before after old new marks
 
 -- The desks were served in a run that was begun, and rested else. What they exchanged stands in the history, each at its own event.
-pub record DesksRan {L : Type 0} (tells : LinkTells L) (answers : ℕ → List Mark → Mark → PlainOrder → List ℕ → Type 0) (turns : ℕ) (old new : List (Desk L Mark)) (began : Began) (marks : List Mark) : Type 0 where
+pub record DesksRan {L : Type 0} (tells : LinkTells L) (answers begins : ℕ → Answer Mark → Type 0) (turns : ℕ) (old new : List (Desk L Mark)) (began : Began) (marks : List Mark) : Type 0 where
   pub as_many : length new ≡ length old
-  pub served : began ≡ Begun → (i : ℕ) (d : Desk L Mark) → i < length old → HasServed tells (answers i) turns 0 marks (get_or old i d) (get_or new i d) × ((get_or new i d).pass ≡ None)
+  pub served : began ≡ Begun → (i : ℕ) (d : Desk L Mark) → i < length old → HasServed tells (answers i) (begins i) turns 0 marks (get_or old i d) (get_or new i d) × ((get_or new i d).pass ≡ None)
   pub rested : (began ≡ Begun → ⊥) → new ≡ old

@@ -11,10 +11,10 @@ use Rattle.vdr_capture.specs.declared.sums.Outcome.{Outcome}
 use Rattle.vdr_capture.specs.declared.sums.Outcome.TheVariants.{Done, NoMemory, Place, Tick, MediaFault, PortFault, LinkFault}
 use Rattle.vdr_desk.specs.declared.desk.Desk.{Desk}
 use Rattle.vdr_desk.specs.Desks.{IsLeastFailed as IsLeastFailedDesk}
-use Rattle.vdr_desk.specs.Exchanges.{AreExchanged, Exchange}
+use Rattle.vdr_desk.specs.Exchanges.{AreServed, Exchange}
 use Rattle.vdr_desk.specs.Links.{Converses}
 use Rattle.vdr_session.specs.declared.mark.Mark.{Mark}
-use Rattle.vdr_session.specs.Origins.{IsAnswerOf, Origin, RoseBy, failures_in}
+use Rattle.vdr_session.specs.Origins.{IsAnswerOf, IsBegunOf, Origin, RoseBy, failures_in}
 use Rattle.vdr_session.specs.Sessions.{IsLeastFailed, is_closed}
 
 module _ {L : Type 0} where
@@ -35,11 +35,11 @@ module _ {L : Type 0} where
   HasSpoken tells turns outcome old new exchanges = HasConversed tells turns old new exchanges ⊎ ((is_closed outcome ≡ false) × HasRested old new exchanges)
 
   -- What was answered at the desk of this number stands in the history: each order is one event of its own there, at rising places, and its
-  -- reply is judged by the events before that.
+  -- reply is judged by the events before that. Where the link failed, the last reply may be only begun.
   pub record DeskReplied (tells : LinkTells L) (turns : ℕ) (channels : List Selector) (origins : List Origin) (number : ℕ) (outcome : Outcome) (opening : Opening) (events : List Event) (old new : Desk L Mark) : Type 0 where
     pub exchanges : List Exchange
     pub spoken : HasSpoken tells turns outcome old new exchanges
-    pub answered : AreExchanged (IsAnswerOf channels origins number opening) events 0 exchanges (length events)
+    pub answered : AreServed (IsAnswerOf channels origins number opening) (IsBegunOf channels origins number opening) events (new.cause ≡ Some Failed) 0 exchanges (length events)
 
   -- So it is at each desk. No event is an order of two desks, and for each event in which a call failed the media's count of faults rose.
   pub record DesksReplied (tells : LinkTells L) (turns : ℕ) (channels : List Selector) (faults_before faults_after : ℕ) (outcome : Outcome) (old new : List (Desk L Mark)) (opening : Opening) (events : List Event) : Type 0 where

@@ -2,12 +2,14 @@
 use Rattle.std.specs.Prelude.{◌≡◌, ◌≤◌, ◌+◌, ◌-◌, ◌^◌, ℕ, suc, Bool, true, false, List, [], ◌∷◌, length, get_or, map, min, cond, Option, Some, None}
 use Rattle.vdr_core.specs.Histories.{Event, Opening}
 use Rattle.vdr_config.specs.Configuration.{Selector}
-use Rattle.vdr_control.specs.Orders.{PlainOrder}
+use Rattle.vdr_desk.specs.Answers.{Answer, IsBegun}
 use Rattle.vdr_reply.specs.Answers.{IsAnswer}
+use Rattle.vdr_reply.specs.Plays.{IsWaiting}
 use Rattle.vdr_session.specs.declared.mark.Mark.{Mark}
 use Rattle.vdr_session.specs.Marks.{misses}
 
--- The number of the desk whose order the event is, where it is one, and whether a call on the media failed in it and it changed nothing.
+-- The number of the desk whose order the event is, or a further turn of its answer, and whether a call on the media failed in it and it changed
+-- nothing.
 pub record Origin : Type 0 where
   pub desk : Option ℕ
   pub failed : Bool
@@ -31,8 +33,14 @@ failures_in (o ∷ origins) = cond o.failed (suc (failures_in origins)) (failure
 abbrev pub RoseBy : ℕ → ℕ → ℕ → Type 0
 RoseBy failures before now = min (before + failures) (2 ^ 64 - 1) ≤ now
 
--- The event is an order of this desk, and the text is its reply, a function of the events before it. A play may be cut short where a call
--- on the media failed in that very event.
-pub record IsAnswerOf (channels : List Selector) (origins : List Origin) (desk : ℕ) (opening : Opening) (before : List Event) (own : Event) (order : PlainOrder) (text : List ℕ) : Type 0 where
-  pub asked : (origin_at origins (length before)).desk ≡ Some desk
-  pub answer : IsAnswer channels ((origin_at origins (length before)).failed ≡ true) opening before own order text
+module _ (channels : List Selector) (origins : List Origin) (desk : ℕ) (opening : Opening) (a : Answer Event) where
+  -- Its own event is an order of this desk, and its text is a function of the events before that. It may be cut short where a call on the media
+  -- failed in its last turn.
+  pub record IsAnswerOf : Type 0 where
+    pub asked : (origin_at origins (length a.before)).desk ≡ Some desk
+    pub answer : IsAnswer channels ((origin_at origins (length a.before + length a.during)).failed ≡ true) opening a
+
+  -- So far it is such an answer, of which something is left.
+  pub record IsBegunOf : Type 0 where
+    pub asked : (origin_at origins (length a.before)).desk ≡ Some desk
+    pub waits : IsBegun (IsWaiting channels opening) a

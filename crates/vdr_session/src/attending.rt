@@ -8,6 +8,7 @@ ghost use Rattle.vdr_recorder.specs.Making.{least_datagram};
 ghost use Rattle.vdr_run.specs.Charges.{Foretells};
 ghost use Rattle.vdr_intake.specs.Items.{most_items};
 ghost use Rattle.vdr_capture.specs.Lanes.{CapturesHeld, IsReadyAmong};
+ghost use Rattle.vdr_desk.specs.Answers.{IsBegun};
 ghost use Rattle.vdr_desk.specs.Desks.{HasServed, Serves};
 ghost use Rattle.vdr_session.specs.declared.mark.Mark.{Mark as Marked};
 ghost use Rattle.vdr_session.specs.Lanes.{AreMet, ArePopped, StayJoined};
@@ -68,7 +69,7 @@ fn run_beside<
     ensures room { room / least_datagram ≤ batch.new.items.capacity }
     ensures empty { batch.new.items.items ≡ [] }
     ensures foretells { result ≡ true → Foretells T.limits (taken_in pass.new.own) batch.new.charges }
-    ensures each { (i : ℕ) (d : _) → i < length desks.old → Serves L.Link (T.answers i) turns (slice_index_or desks.old i d) (slice_index_or desks.new i d) }
+    ensures each { (i : ℕ) (d : _) → i < length desks.old → Serves L.Link (T.answers i) (IsBegun (T.waits i)) turns (slice_index_or desks.old i d) (slice_index_or desks.new i d) }
     ensures as_many { length desks.new ≡ length desks.old }
 {
     let (works, _) = join_mut(
@@ -98,7 +99,7 @@ fn run_beside<
         { capture_and_record(rt, latch, pass, lanes, turns, queues, takers, batch, room) },
         &mut ||
             requires held { (i : ℕ) (d : _) → i < length desks.now → (p : Passing Marked) × ((slice_index_or desks.now i d).pass ≡ Some p) × (p.latch ≡ latch.now) × (p.leads ≡ false) }
-            ensures each { (i : ℕ) (d : _) → i < length desks.entry.now → Serves L.Link (T.answers i) turns (slice_index_or desks.entry.now i d) (slice_index_or desks.exit.now i d) }
+            ensures each { (i : ℕ) (d : _) → i < length desks.entry.now → Serves L.Link (T.answers i) (IsBegun (T.waits i)) turns (slice_index_or desks.entry.now i d) (slice_index_or desks.exit.now i d) }
             ensures as_many { length desks.exit.now ≡ length desks.entry.now }
         { serve_all(rt, latch, alloc, desks, turns) },
     );
@@ -147,7 +148,7 @@ pub(crate) fn record_and_serve<
     ensures room { room / least_datagram ≤ batch.new.items.capacity }
     ensures empty { batch.new.items.items ≡ [] }
     ensures foretells { result ≡ true → Foretells T.limits (taken_in pass.new.own) batch.new.charges }
-    ensures desks { (i : ℕ) (d : _) → i < length desks.old → HasServed L.Link (T.answers i) turns 0 pass.new.seen (slice_index_or desks.old i d) (slice_index_or desks.new i d) × ((slice_index_or desks.new i d).pass ≡ None) }
+    ensures desks { (i : ℕ) (d : _) → i < length desks.old → HasServed L.Link (T.answers i) (IsBegun (T.waits i)) turns 0 pass.new.seen (slice_index_or desks.old i d) (slice_index_or desks.new i d) × ((slice_index_or desks.new i d).pass ≡ None) }
     ensures as_many { length desks.new ≡ length desks.old }
 {
     split_desks(latch, pass, desks);

@@ -14,7 +14,7 @@ ghost use Rattle.vdr_durability.specs.Commits.{largest_item};
 ghost use Rattle.vdr_recorder.specs.Making.{least_datagram};
 ghost use Rattle.vdr_run.specs.Charges.{Foretells};
 ghost use Rattle.vdr_intake.specs.Items.{most_items};
-ghost use Rattle.vdr_session.specs.Answering.{AnswersMark};
+ghost use Rattle.vdr_session.specs.Answering.{AnswersMark, BeginsMark};
 ghost use Rattle.vdr_session.specs.Closed.{DesksRan};
 ghost use Rattle.vdr_session.specs.Ended.{HasEnded};
 ghost use Rattle.vdr_session.specs.Ran.{LaneIsReady};
@@ -88,7 +88,7 @@ pub(crate) fn run_lent<
     ensures same { result.0.ghost_name ≡ media.entry.ghost_name }
     ensures same_watch { result.1.ghost_name ≡ watch.entry.ghost_name }
     ensures ended { IfSome result.2 (λ e. HasEnded P.Port turns (λ g. is_configured (limits_in O.rates g)) memory.old.queues memory.old.takers memory.new.takers lanes.old lanes.new
-        (record { clock = O.clock; now = O.now; since = O.since; until = O.until; reads = O.reads; channels = O.channels; hears = W.hears; heard = O.heard }) O.began O.sizes O.faults (λ began marks. DesksRan L.Link (AnswersMark M.tells O.began O.channels) turns desks.old desks.new began marks) e.outcome e.recorder (M.disk result.0.now) (M.faults result.0.now) (W.seen result.1.now)) }
+        (record { clock = O.clock; now = O.now; since = O.since; until = O.until; reads = O.reads; channels = O.channels; hears = W.hears; heard = O.heard }) O.began O.sizes O.faults (λ began marks. DesksRan L.Link (AnswersMark M.tells O.began O.channels) (BeginsMark M.tells O.began O.channels) turns desks.old desks.new began marks) e.outcome e.recorder (M.disk result.0.now) (M.faults result.0.now) (W.seen result.1.now)) }
     ensures unbegun { IfSome result.2 (λ e. IsUnbegun e.outcome → (result.0.now ≡ media.entry.now) × (lanes.new ≡ lanes.old)) }
     ensures decides { IfSome result.2 (λ e. DecidesSession recorder.vault e.outcome) }
     ensures queues { memory.new.queues ≡ memory.old.queues }

@@ -12,7 +12,7 @@ ghost use Rattle.vdr_recorder.specs.Making.{least_datagram};
 ghost use Rattle.vdr_run.specs.Charges.{Foretells};
 ghost use Rattle.vdr_intake.specs.Items.{most_items};
 ghost use Rattle.vdr_session.specs.declared.mark.Mark.{Mark as Marked};
-ghost use Rattle.vdr_session.specs.Answering.{AnswersMark};
+ghost use Rattle.vdr_session.specs.Answering.{AnswersMark, BeginsMark};
 ghost use Rattle.vdr_session.specs.Closed.{DesksRan, HasClosed};
 ghost use Rattle.vdr_session.specs.Ran.{LaneIsReady};
 ghost use Rattle.vdr_session.specs.Standing.{IsKept, IsNoRefusal, MayStart, StartMeans};
@@ -90,7 +90,7 @@ pub(crate) fn record_lent<
     ensures closed { IfSome result.2 (λ r. (marks : List Marked)
         × IsKept (record { clock = O.clock; now = O.now; since = O.since; until = O.until; reads = O.reads; channels = O.channels; hears = W.hears; heard = O.heard }) O.began O.rates O.room O.sizes O.faults marks (W.seen result.1.now) r.recorder (M.disk result.0.now) (M.faults result.0.now)
         × HasClosed P.Port turns (λ g. is_configured (limits_in O.rates g)) queues.now takers.old takers.new lanes.old lanes.new r.began marks
-        × DesksRan L.Link (AnswersMark M.tells O.began O.channels) turns desks.old desks.new r.began marks
+        × DesksRan L.Link (AnswersMark M.tells O.began O.channels) (BeginsMark M.tells O.began O.channels) turns desks.old desks.new r.began marks
         × IsNoRefusal r.began × (M.tells → (opening : Opening) (t0 : ℕ) → O.began opening t0 → StartMeans opening r.began)) }
     ensures refused { result.2 ≡ None → (result.0.now ≡ media.entry.now) × (lanes.new ≡ lanes.old) × (desks.new ≡ desks.old) × (takers.new ≡ takers.old) × (result.1.now ≡ watch.entry.now) }
 {

@@ -33,4 +33,4 @@ pub use recording::record_at_desks;
 pub use records::Began;
 pub use session::SessionEnd;
 pub use vdr_capture::{GroupSums, Outcome};
-pub use vdr_desk::Desk;
+pub use vdr_desk::{Desk, Piece};

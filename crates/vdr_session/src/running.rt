@@ -1,6 +1,7 @@
 // What goes between the making of the latch and its close.
 ghost use Rattle.std.specs.Prelude.{◌≡◌, ◌≤◌, ◌<◌, ◌/◌, ◌++◌, ℕ, List, [], All, true, false, get_or, slice_index_or, length, None};
 ghost use mathlib.Core.List.{IsPrefix};
+ghost use Rattle.vdr_desk.specs.Answers.{IsBegun};
 ghost use Rattle.vdr_desk.specs.Desks.{HasServed};
 ghost use Rattle.vdr_core.specs.Taken.{Captured as CapturedTold};
 ghost use Rattle.vdr_durability.specs.Commits.{largest_item};
@@ -62,7 +63,7 @@ pub(crate) fn run_lanes<
     ensures lanes { (g : ℕ) (d : _) → g < 16 → LaneRan P.Port turns g (get_or queues.now g None) (get_or takers.new g None) (slice_index_or lanes.old g d) (slice_index_or lanes.new g d) }
     ensures pass { (pass.new.latch ≡ pass.old.latch) × (pass.new.parts ≡ pass.old.parts) × (pass.new.leads ≡ true) × (is_begun pass.new.own ≡ true) }
     ensures seen { IsPrefix pass.old.seen pass.new.seen }
-    ensures desks { (i : ℕ) (d : _) → i < length desks.old → HasServed L.Link (T.answers i) turns 0 pass.new.seen (slice_index_or desks.old i d) (slice_index_or desks.new i d) × ((slice_index_or desks.new i d).pass ≡ None) }
+    ensures desks { (i : ℕ) (d : _) → i < length desks.old → HasServed L.Link (T.answers i) (IsBegun (T.waits i)) turns 0 pass.new.seen (slice_index_or desks.old i d) (slice_index_or desks.new i d) × ((slice_index_or desks.new i d).pass ≡ None) }
     ensures as_many { length desks.new ≡ length desks.old }
     ensures popped { (lost : List CapturedTold) × ArePopped (taken_in pass.new.own ++ lost) takers.new × (has_fault pass.new.seen ≡ false → lost ≡ []) }
     ensures drained { has_fault pass.new.seen ≡ false → AreDrained takers.new }

@@ -5,6 +5,7 @@ ghost use Rattle.vdr_durability.specs.Commits.{largest_item};
 ghost use Rattle.vdr_recorder.specs.Making.{least_datagram};
 ghost use Rattle.vdr_run.specs.Charges.{Foretells};
 ghost use Rattle.vdr_intake.specs.Items.{most_items};
+ghost use Rattle.vdr_desk.specs.Answers.{IsBegun};
 ghost use Rattle.vdr_session.specs.declared.mark.Mark.{Mark as Marked};
 ghost use Rattle.vdr_session.specs.Marks.{is_begun, is_leading, taken_in};
 ghost use Rattle.vdr_session.specs.Ran.{LaneIsReady};
@@ -60,7 +61,7 @@ pub(crate) fn under_latch<
     requires room { (largest_item ≤ room) × (room ≤ T.room) × (room / least_datagram ≤ batch.old.items.capacity) }
     requires empty { batch.old.items.items ≡ [] }
     requires foretells { Foretells T.limits [] batch.old.charges }
-    ensures closed { IfOk result (λ r. (marks : List Marked) × T.leaves marks r.value × HasClosed P.Port turns T.configured queues.now takers.old takers.new lanes.old lanes.new r.began marks × DesksRan L.Link T.answers turns desks.old desks.new r.began marks × T.means r.began) }
+    ensures closed { IfOk result (λ r. (marks : List Marked) × T.leaves marks r.value × HasClosed P.Port turns T.configured queues.now takers.old takers.new lanes.old lanes.new r.began marks × DesksRan L.Link T.answers (λ i. IsBegun (T.waits i)) turns desks.old desks.new r.began marks × T.means r.began) }
     ensures refused { IfErr result (λ r. (r.value ≡ value) × (lanes.new ≡ lanes.old) × (takers.new ≡ takers.old) × (desks.new ≡ desks.old)) }
 {
     let (latch, mut pass) = Latch::new(alloc, value)?;

@@ -1,4 +1,4 @@
-use Rattle.std.proofs.Common.{◌≡◌, ◌≢◌, ◌<◌, ℕ, Some, get_or}
+use Rattle.std.proofs.Common.{◌≢◌, ◌<◌, ℕ, Some, get_or}
 use Rattle.vdr_capture.specs.declared.lane.Cause.TheVariants.{Failed}
 use Rattle.vdr_desk.specs.declared.desk.Desk.{Desk}
 use Rattle.vdr_desk.proofs.passing.failed_link.Given as goal

@@ -1,5 +1,6 @@
 use Rattle.std.proofs.Common.{◌<◌, get_or, length, refl, sym, ap, ◌∙◌, arith}
 use Rattle.vdr_latch.specs.Passes.{Passing}
+use Rattle.vdr_desk.specs.Answers.{IsBegun}
 use Rattle.vdr_desk.specs.declared.desk.Desk.{Desk}
 use Rattle.vdr_session.specs.declared.mark.Mark.{Mark}
 use Rattle.vdr_desk.proofs.Lists.{same_some}
@@ -28,5 +29,5 @@ pub returns-clause-desks : goal.returns-clause-desks
 returns-clause-desks g c i d low =
     let there : i < length c.split_desks.new.desks = (let b = c.split_desks.ensures.length in omega (arith, b, low)) in
     let held : i < length c.run_beside-works.new.desks = (let a = c.run_beside-works.ensures.as_many in omega (arith, a, there)) in
-    served_whole (g.T.Answers.answers i) g.L.Link c.args.turns (get_or c.args.desks.now i d) (get_or c.split_desks.new.desks i d) (get_or c.run_beside-works.new.desks i d) (get_or c.join_desks.new.desks i d) _ c.join_desks.new.pass.seen
+    served_whole (g.T.Answers.answers i) (IsBegun (g.T.Answers.waits i)) g.L.Link c.args.turns (get_or c.args.desks.now i d) (get_or c.split_desks.new.desks i d) (get_or c.run_beside-works.new.desks i d) (get_or c.join_desks.new.desks i d) _ c.join_desks.new.pass.seen
     (c.split_desks.ensures.desks i d low) (c.run_beside-works.ensures.each i d there) (c.join_desks.ensures.theirs i d held) (c.join_desks.ensures.desks i d held)

@@ -14,7 +14,7 @@ use Rattle.vdr_recorder.specs.Watched.{Tells}
 use Rattle.vdr_recorder.proofs.Telling.{tells_none}
 use Rattle.vdr_desk.specs.declared.desk.Desk.{Desk}
 use Rattle.vdr_session.specs.declared.mark.Mark.{Mark}
-use Rattle.vdr_session.specs.Answering.{AnswersMark}
+use Rattle.vdr_session.specs.Answering.{AnswersMark, BeginsMark}
 use Rattle.vdr_session.specs.Closed.{DesksRan}
 use Rattle.vdr_session.specs.Desks.{DesksReplied, DesksTold}
 use Rattle.vdr_session.specs.Sessions.{DecidesSession, SessionWith, is_closed}
@@ -87,7 +87,7 @@ returns-clause-session g c =
     (λ i. (sym (c.media-1.given.1 (sym c.run_lent-media.ensures.same)) i, sym (c.watch-1.given.1 (sym c.run_lent-media.ensures.same_watch)) i))
     (session_of g.P.Port c.args.turns c.args.recorder.vault.config.queue c.args.recorder.vault.config.groups c.new-plan.result.configured c.in-Ok.memory.queues c.in-Ok.memory.takers c.run_lent-media.new.memory.takers
     c.args.lanes.now c.new.new.lanes c.run_lent-media.new.lanes c.args.recorder (g.M.Media.disk c.args.media.now) (g.M.Media.disk c.args.media.now).sizes (g.M.Media.faults c.args.media.now)
-    (λ began marks. DesksRan g.L.Link (AnswersMark g.M.Media.tells (λ opening t0. HasRecorded opening [] t0 c.args.recorder (g.M.Media.disk c.args.media.now)) c.args.recorder.vault.config.channels) c.args.turns c.reset.new.desks c.run_lent-media.new.desks began marks)
+    (λ began marks. DesksRan g.L.Link (AnswersMark g.M.Media.tells (λ opening t0. HasRecorded opening [] t0 c.args.recorder (g.M.Media.disk c.args.media.now)) c.args.recorder.vault.config.channels) (BeginsMark g.M.Media.tells (λ opening t0. HasRecorded opening [] t0 c.args.recorder (g.M.Media.disk c.args.media.now)) c.args.recorder.vault.config.channels) c.args.turns c.reset.new.desks c.run_lent-media.new.desks began marks)
     c.in-Some.field-0.outcome c.in-Some.field-0.recorder
     (g.M.Media.disk c.run_lent-media.result.0.now) (g.M.Media.faults c.run_lent-media.result.0.now) g.W.Watch.hears (g.W.Watch.seen c.args.watch.now) (g.W.Watch.seen c.run_lent-media.result.1.now) end
     (λ k small. c.new-plan.ensures.configured k small ∙ ap (λ (x : Configuration). is_configured (limits_in x.groups k)) config)

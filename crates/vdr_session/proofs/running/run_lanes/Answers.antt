@@ -4,6 +4,7 @@ use Rattle.vdr_capture.specs.declared.lane.Lane.{Lane}
 use Rattle.vdr_session.specs.Lanes.{ArePopped}
 use Rattle.vdr_session.specs.Marks.{has_fault, taken_in}
 use Rattle.vdr_session.proofs.LanesRan.{first_of, joins_joined, joins_met, joins_popped, may_join, none_popped, popped_stays, ran, ready_met, ready_popped}
+use Rattle.vdr_desk.specs.Answers.{IsBegun}
 use Rattle.vdr_session.proofs.Served.{served_on}
 use Rattle.vdr_session.proofs.running.run_lanes.Goals as goal
 
@@ -126,6 +127,6 @@ returns-then-not-works-clause-met g c k small =
 pub returns-clause-desks : goal.returns-clause-desks
 returns-clause-desks g c i d low =
     let s = c.record_and_serve-works.ensures.desks i d low in (
-      served_on (g.T.Answers.answers i) g.L.Link c.args.turns c.record_and_serve-works.new.pass.seen c.record_queued.new.pass.seen (get_or c.args.desks.now i d) (get_or c.record_and_serve-works.new.desks i d) c.record_queued.ensures.seen s.0,
+      served_on (g.T.Answers.answers i) (IsBegun (g.T.Answers.waits i)) g.L.Link c.args.turns c.record_and_serve-works.new.pass.seen c.record_queued.new.pass.seen (get_or c.args.desks.now i d) (get_or c.record_and_serve-works.new.desks i d) c.record_queued.ensures.seen s.0,
       s.1,
     )

@@ -8,6 +8,7 @@ use Rattle.vdr_session.specs.Lanes.{AreDrained, AreMet, ArePopped}
 use Rattle.vdr_session.specs.Marks.{has_fault, is_begun, taken_in}
 use Rattle.vdr_latch.specs.Passes.{Passing}
 use Rattle.vdr_desk.specs.declared.desk.Desk.{Desk}
+use Rattle.vdr_desk.specs.Answers.{IsBegun}
 use Rattle.vdr_desk.specs.Desks.{HasServed}
 use Rattle.vdr_session.specs.Ran.{LaneRan}
 use Rattle.vdr_session.specs.Events.{is_started}
@@ -53,7 +54,7 @@ returns-clause-closed g c =
             (record {
               as_many = ap length w.desks-is ∙ r.as_many;
               served = λ e i d low.
-                  subst (λ (x : List (Desk g.row.L.Denot Marked) × Passing Marked). HasServed g.L.Link (g.T.Answers.answers i) c.args.turns 0 x.1.seen (get_or c.args.desks.now i d) (get_or x.0 i d) × ((get_or x.0 i d).pass ≡ None))
+                  subst (λ (x : List (Desk g.row.L.Denot Marked) × Passing Marked). HasServed g.L.Link (g.T.Answers.answers i) (IsBegun (g.T.Answers.waits i)) c.args.turns 0 x.1.seen (get_or c.args.desks.now i d) (get_or x.0 i d) × ((get_or x.0 i d).pass ≡ None))
                   (λ k. (sym w.desks-is k, sym w.pass-is k)) (r.desks i d low);
               rested = λ ne. absurd (ne w.in-Begun.is);
             }),
