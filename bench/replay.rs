@@ -179,7 +179,7 @@ fn main() -> io::Result<()> {
     batch.push(0, 0, place, tick, utc, &[]);
     batch.commit(&mut media)?;
     while let Some((group, received, stamp)) = item(&mut input, &mut bytes)? {
-        let size = 128 + bytes.len();
+        let size = 44 + bytes.len();
         if size > left {
             batch.commit(&mut media)?;
             left = room;

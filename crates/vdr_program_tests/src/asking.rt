@@ -42,7 +42,7 @@ fn run<
     let alarm = Alarm::new();
     let heard = last_heard(host);
     let mut lanes = udp_lanes(host, host.alloc(), &alarm, &heard)?;
-    let mut desks = [tcp_desk(rt, &alarm)];
+    let mut desks = [tcp_desk(rt, host.alloc(), &alarm)?];
     let told = Told::new(rt.alloc());
     let mut printed = Vec::new(rt.alloc());
     let streams = Streams {

@@ -7,7 +7,7 @@ use std::thread::Threads;
 use std::time::Clock;
 use vdr_capture::Lane;
 use vdr_memory::{Flag, GatedLink, GatedPort, MemoryLink, PortItem, meeting_ports};
-use vdr_session::{Desk, Mark};
+use vdr_session::{Desk, Mark, Piece};
 use vdr_tool::Status;
 
 /// The groups of NAVD and VDRD.
@@ -93,6 +93,7 @@ pub(crate) fn answered_gated<R: Threads + Wait + Clock + Sync>(
     let vdrd = gated_port(rt, alloc, open_gate(alloc)?)?;
     let mut lanes = lanes_of(rt, alloc, navd, vdrd)?;
     let awaited = b"OK records 2 ".to_vec(alloc)?;
-    let mut desks = [Desk::new(GatedLink::new(rt, awaited, gate))];
+    let piece = Box::new(alloc, Piece::new())?;
+    let mut desks = [Desk::new(GatedLink::new(rt, awaited, gate), piece)];
     answered(rt, alloc, words, world, lanes.as_mut_slice(), &mut desks)
 }

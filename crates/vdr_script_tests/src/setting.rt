@@ -4,7 +4,7 @@ use anyhow::{Context, Result, ensure};
 use std::alloc::{AllocError, Global};
 use vdr_capture::Lane;
 use vdr_memory::{LinkLine, LinkPlan, MemoryLink, MemoryPort, PortItem, are_in_order};
-use vdr_session::{Desk, Mark};
+use vdr_session::{Desk, Mark, Piece};
 
 #[derive(Drop)]
 pub(crate) struct Setting {
@@ -123,7 +123,8 @@ impl Setting {
                 quiet: Vec::new(alloc),
                 refusing: link.refusing,
             };
-            desks.push(Desk::new(MemoryLink::new(alloc, link.lines, plan)))?;
+            let piece = Box::new(alloc, Piece::new())?;
+            desks.push(Desk::new(MemoryLink::new(alloc, link.lines, plan), piece))?;
         }
         Ok(desks)
     }
