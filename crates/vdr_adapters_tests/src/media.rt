@@ -68,7 +68,7 @@ fn has_text<M: Media>(alloc: Global, media: &mut M, m: u8, rest: &str) -> Result
     let (at, text) = first_word(rest);
     let piece = run_of(alloc, text.len() as u64, "?")?;
     let is_so = has(media, m, number(at)?, text.as_bytes(), piece);
-    expect(is_so, "other bytes")
+    expect(is_so && !text.is_empty(), "other bytes")
 }
 
 // Writes the bytes of a line `AT TEXT` or `AT COUNT`.
