@@ -29,6 +29,19 @@ cause_of_error members m a b c e r one_of earlier last = record {
   failed = on_err r (one_of (λ k. Rose (get_or a k 0) (get_or c k 0)) (rose_after (get_or a m 0) (get_or b m 0) (get_or c m 0) (earlier.none_falls m) last.failed));
 }
 
+-- calls that succeeded, and then an error that is made of that of calls on these media
+pub among_after : {T E T' E' : Type 0} (members a b c : List ℕ) (e : E) (r : Result T' E') → NoneFalls a b → HasCauseAmong {T = T} members b c (Err e) → HasCauseAmong members a c r
+among_after members a b c e r earlier last = record {
+  later = none_falls_join a b c earlier last.later;
+  failed = on_err r (
+    last.failed.0,
+    last.failed.1,
+    last.failed.2,
+    last.failed.3,
+    rose_after (get_or a last.failed.1 0) (get_or b last.failed.1 0) (get_or c last.failed.1 0) (earlier.none_falls last.failed.1) last.failed.4,
+  );
+}
+
 -- The causes of an answer of `format`.
 
 pub fault_cause : (members a c : List ℕ) (answer : Answer) → NoneFalls a c → Any (λ m. Rose (get_or a m 0) (get_or c m 0)) members → HasFaultCause members a c answer

@@ -1,38 +1,42 @@
 -- `format`, from the moment on at which the gate of medium 0 is closed.
-use Rattle.std.proofs.Common.{◌≢◌, ◌⊎◌, inl, inr, ⊎_elim, ℕ, List, [], ◌∷◌, refl, ◌∙◌, arith}
-use Rattle.std.specs.Prelude.{All, Result, IsErr, ⊤}
-use Rattle.vdr_outside.specs.Disk.{Disk, Image, Unchanged, content}
+use Rattle.std.proofs.Common.{◌≢◌, ◌⊎◌, ◌<◌, ◌≤◌, ◌+◌, inl, inr, ⊎_elim, ℕ, zero, suc, List, refl, sym, ◌∙◌, subst, arith}
+use Rattle.std.proofs.lemmas.Bool.{cases_lt}
+use Rattle.std.specs.Prelude.{All, Result, IsErr}
+use Rattle.vdr_outside.specs.Disk.{Disk, Image, SameBut, Unchanged, content}
 use Rattle.vdr_outside.specs.Moments.{AtEachMoment, Changed, ChangesOnly, Settled}
 use Rattle.vdr_outside.proofs.Images.{others_written}
-use Rattle.vdr_outside.proofs.Moments.{now_after, moments_weaken, moments_join, moments_after_reads, unchanged_now, settled_meanwhile}
+use Rattle.vdr_outside.proofs.Moments.{now_after, moments_weaken, moments_join, moments_after_reads, unchanged_now, settled_image, settled_meanwhile, settled_other}
 use Rattle.vdr_config.specs.Configuration.{Configuration}
 use Rattle.vdr_media.specs.Medium.{IsEmptyMedium}
-use Rattle.vdr_media.specs.Formatted.{IsUnformatted, IsEmptyHistoryOf, SameBeside}
+use Rattle.vdr_media.specs.Formatted.{IsUnformatted, IsEmptyHistoryOf, SameBeside, members_with}
 use Rattle.vdr_media.specs.Formatting.{ClosedAlone, GoesOnSynced, FormatsAtEachMoment}
-use Rattle.vdr_media.specs.Writing.{ClosedOrEmpty, HasClosedGate}
-use Rattle.vdr_media.proofs.Two.{all_two}
+use Rattle.vdr_media.specs.Writing.{ClosedOrEmpty, HasClosedGate, SameBesides}
+use Rattle.vdr_media.proofs.Members.{of_all, of_each}
 use Rattle.vdr_media.proofs.Unformatted.{closed_after_reads, unchanged_moments}
 
-pub one_zero : ◌≢◌ {A = ℕ} 1 0
-one_zero = omega arith
+module _ {tells tells_images : Type 0} (n : ℕ) (c : Configuration) (text : List ℕ) (synced mid : Disk tells tells_images) (closed : Settled 0 HasClosedGate synced) (first : AtEachMoment synced mid (SameBesides 1 (2 + n) synced.now)) where
+  -- while the media behind the first are laid out, its gate is closed
+  pub first_moments : AtEachMoment synced mid (λ i. IsUnformatted i ⊎ IsEmptyHistoryOf (members_with n) text i)
+  first_moments = moments_weaken synced mid _ _ first (λ i b. inl (inr (subst HasClosedGate (sym (b.others 0 (inl (omega arith)))) (settled_image 0 HasClosedGate synced closed b.image b.was))))
 
-pub zero_one : ◌≢◌ {A = ℕ} 0 1
-zero_one = omega arith
+  module _ (empty : (k : ℕ) → 1 ≤ k → k < 2 + n → Settled k (IsEmptyMedium k c text) mid) (new : Disk tells tells_images) where
+    closed_or_empty : (i : Image) → Changed 0 (ClosedOrEmpty 0 c text) mid.now i → IsUnformatted i ⊎ IsEmptyHistoryOf (members_with n) text i
+    closed_or_empty i changed = ⊎_elim (λ shut. inl (inr shut)) (λ made. inr (c, record { each = of_all (λ m. IsEmptyMedium m c text (content i m)) n (each made) })) changed.has
+      where
+        each : IsEmptyMedium 0 c text (content i 0) → (k : ℕ) → k < 2 + n → IsEmptyMedium k c text (content i k)
+        each made zero lt = made
+        each made (suc k) lt = settled_meanwhile 0 (suc k) _ _ mid (λ is. omega (arith, is)) (empty (suc k) (omega arith) lt) i changed
 
-module _ {tells tells_images : Type 0} (c : Configuration) (text : List ℕ) (synced mid : Disk tells tells_images) (closed : Settled 0 HasClosedGate synced) (first : ChangesOnly 1 (λ b. ⊤) synced mid) where
-  -- while medium 1 is laid out, the gate of medium 0 is closed
-  pub first_moments : AtEachMoment synced mid (λ i. IsUnformatted i ⊎ IsEmptyHistoryOf (0 ∷ 1 ∷ []) text i)
-  first_moments = moments_weaken synced mid _ _ first (λ i c. inl (inr (settled_meanwhile 1 0 _ HasClosedGate synced zero_one closed i c)))
+    -- and then it is made
+    pub all_moments : ChangesOnly 0 (ClosedOrEmpty 0 c text) mid new → AtEachMoment synced new (λ i. IsUnformatted i ⊎ IsEmptyHistoryOf (members_with n) text i)
+    all_moments last = moments_join synced mid new _ first_moments (moments_weaken mid new _ _ last closed_or_empty)
 
-  module _ (empty : Settled 1 (IsEmptyMedium 1 c text) mid) (new : Disk tells tells_images) (second : ChangesOnly 0 (ClosedOrEmpty 0 c text) mid new) where
-    closed_or_empty : (i : Image) → Changed 0 (ClosedOrEmpty 0 c text) mid.now i → IsUnformatted i ⊎ IsEmptyHistoryOf (0 ∷ 1 ∷ []) text i
-    closed_or_empty i changed =
-        let other : IsEmptyMedium 1 c text (content i 1) = settled_meanwhile 0 1 _ _ mid one_zero empty i changed in
-        ⊎_elim (λ shut. inl (inr shut)) (λ made. inr (c, record { each = all_two (λ m. IsEmptyMedium m c text (content i m)) made other })) changed.has
-
-    -- and then medium 0
-    pub all_moments : AtEachMoment synced new (λ i. IsUnformatted i ⊎ IsEmptyHistoryOf (0 ∷ 1 ∷ []) text i)
-    all_moments = moments_join synced mid new _ first_moments (moments_weaken mid new _ _ second closed_or_empty)
+    pub all_made : (P : List ℕ → Type 0) → ChangesOnly 0 P mid new → (tells → SameBut 0 mid.reads new.reads) → Settled 0 (IsEmptyMedium 0 c text) new → All (λ m. Settled m (IsEmptyMedium m c text) new) (members_with n)
+    all_made P changes same here = of_all (λ m. Settled m (IsEmptyMedium m c text) new) n each
+      where
+        each : (k : ℕ) → k < 2 + n → Settled k (IsEmptyMedium k c text) new
+        each zero lt = here
+        each (suc k) lt = settled_other 0 (suc k) P _ mid new (λ is. omega (arith, is)) changes same (empty (suc k) (omega arith) lt)
 
 module _ {tells tells_images : Type 0} (old synced new : Disk tells tells_images) (IsNew : Image → Type 0) where
   pub goes_on : AtEachMoment old synced (λ i. old.now i ⊎ ClosedAlone old.now i) → AtEachMoment synced new (λ i. IsUnformatted i ⊎ IsNew i) → GoesOnSynced old new IsNew
@@ -98,3 +102,13 @@ module _ {tells tells_images : Type 0} (members : List ℕ) where
   pub beside_changed : (m : ℕ) (P : List ℕ → Type 0) (old new : Disk tells tells_images) → ((k : ℕ) → All (λ m. k ≢ m) members → k ≢ m) → ChangesOnly m P old new → AtEachMoment old new (SameBeside members old.now)
   beside_changed m P old new apart moments =
       moments_weaken old new _ _ moments (λ i c. record { image = c.image; was = c.was; same = λ k others. c.others k (apart k others) })
+
+-- What is none of the media that there are is before the first or behind the last of the others.
+pub beyond : (n k : ℕ) → All (λ m. k ≢ m) (members_with n) → (k < 1) ⊎ (2 + n ≤ k)
+beyond n k others = elim (cases_lt k (2 + n)) [
+  | inl lt ↦ absurd (of_each (λ m. k ≢ m) n others k lt refl)
+  | inr above ↦ inr above
+]
+
+pub beside_others : {tells tells_images : Type 0} (n : ℕ) (old new : Disk tells tells_images) → AtEachMoment old new (SameBesides 1 (2 + n) old.now) → AtEachMoment old new (SameBeside (members_with n) old.now)
+beside_others n old new moments = moments_weaken old new _ _ moments (λ i b. record { image = b.image; was = b.was; same = λ k others. b.others k (beyond n k others) })

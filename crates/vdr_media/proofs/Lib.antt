@@ -7,5 +7,7 @@ pub mod Causes
 pub mod LaidOut
 pub mod Opening
 pub mod Two
+pub mod Members
 pub mod Unformatted
+pub mod Emptied
 pub mod Formats

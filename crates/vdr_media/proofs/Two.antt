@@ -1,7 +1,6 @@
 -- The two media that are formatted, in their order.
 use Rattle.std.proofs.Common.{◌≢◌, ◌<◌, ℕ, zero, suc, [], ◌∷◌, refl, arith}
 use Rattle.std.specs.Prelude.{All, Any}
-use Rattle.std.proofs.lemmas.List.Elements.{All-cons, All-nil}
 
 pub all_two : (P : ℕ → Type 0) → P 0 → P 1 → All P (0 ∷ 1 ∷ [])
 all_two P p q zero d lt = p
@@ -16,9 +15,6 @@ second_of P p = (1, 1, omega arith, refl, p)
 
 pub not_first : (k : ℕ) → All (λ m. k ≢ m) (0 ∷ 1 ∷ []) → k ≢ 0
 not_first k others = others 0 0 (omega arith)
-
-pub not_second : (k : ℕ) → All (λ m. k ≢ m) (0 ∷ 1 ∷ []) → k ≢ 1
-not_second k others = others 1 0 (omega arith)
 
 -- What holds of all media holds of each.
 pub of_each : (P : ℕ → Type 0) → All P (0 ∷ 1 ∷ []) → (k : ℕ) → k < 2 → P k
@@ -36,6 +32,3 @@ pub any_at : (P : ℕ → Type 0) (m : ℕ) → m < 2 → P m → Any P (0 ∷ 1
 any_at P zero lt here = first_of P here
 any_at P (suc zero) lt here = second_of P here
 any_at P (suc (suc m)) lt here = absurd (omega (arith, lt))
-
-pub all_one : (P : ℕ → Type 0) (m : ℕ) → P m → All P (m ∷ [])
-all_one P m here = All-cons P m [] here (All-nil P)

@@ -1,5 +1,5 @@
 -- What the writes of `format` do to one medium.
-use Rattle.std.specs.Prelude.{◌≡◌, ◌≢◌, ◌⊎◌, ℕ, ◌+◌, ◌*◌, ◌<◌, List, [], ◌∷◌, length, slice_get, get_or, Any, Result, OnErr}
+use Rattle.std.specs.Prelude.{◌≡◌, ◌≢◌, ◌⊎◌, ℕ, ◌+◌, ◌*◌, ◌<◌, ◌≤◌, List, [], ◌∷◌, length, slice_get, get_or, Any, Result, OnErr}
 use Rattle.vdr_segment.specs.Gates.{open_gate}
 use Rattle.vdr_outside.specs.Causes.{Rose, NoneFalls}
 use Rattle.vdr_outside.specs.Disk.{Disk, Image, SameBut, content, over}
@@ -15,6 +15,12 @@ pub record SameGate (m : ℕ) (from : Image → Type 0) (i : Image) : Type 0 whe
   pub was : from image
   pub others : SameBut m image i
   pub gate : slice_get (content i m) 0 ≡ slice_get (content image m) 0
+
+-- One of these images, but for the media from one number to another.
+pub record SameBesides (first count : ℕ) (from : Image → Type 0) (i : Image) : Type 0 where
+  pub image : Image
+  pub was : from image
+  pub others : (k : ℕ) → (k < first) ⊎ (count ≤ k) → content i k ≡ content image k
 
 -- Only bytes of medium m behind its byte 0 were written, synced or not.
 pub record WritesBehindGate {tells tells_images : Type 0} (m : ℕ) (old new : Disk tells tells_images) : Type 0 where

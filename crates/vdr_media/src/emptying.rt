@@ -2,7 +2,7 @@
 //
 // The sync of the capsule stands before any other byte is written, so that a capsule whose gate is open never stands
 // beside a half-made medium. One more stands before its gate is closed, so that a stop leaves what was read of it.
-ghost use Rattle.std.specs.Prelude.{◌≡◌, ◌<◌, ◌≤◌, ◌⊎◌, true, false, length, get_or, Ok, All, OnOk};
+ghost use Rattle.std.specs.Prelude.{◌≡◌, ◌<◌, ◌≤◌, ◌⊎◌, ◌-◌, ℕ, true, false, length, get_or, Ok, All, OnOk};
 ghost use Rattle.vdr_terms.specs.Needs.{Fits};
 ghost use Rattle.vdr_outside.specs.Causes.{HasCauseOn};
 ghost use Rattle.vdr_outside.specs.Disk.{SameBut, content};
@@ -11,12 +11,13 @@ ghost use Rattle.vdr_config.specs.Sizes.{sizes_of};
 ghost use Rattle.vdr_config.specs.Grammar.{configuration};
 ghost use Rattle.vdr_terms.specs.Slots.{slots_from};
 ghost use Rattle.vdr_media.specs.Medium.{IsEmptyMedium};
-ghost use Rattle.vdr_media.specs.Formatted.{members, IsEmptyHistoryOf, SameBeside};
+ghost use Rattle.vdr_media.specs.Formatted.{members, members_with, IsEmptyHistoryOf, SameBeside};
 ghost use Rattle.vdr_media.specs.Answers.{KnownFormatted, KnownUnformatted};
 ghost use Rattle.vdr_media.specs.Formatting.{ClosedAlone, FormatsAtEachMoment};
-ghost use Rattle.vdr_media.specs.Writing.{HasClosedGate, HasCauseAmong};
+ghost use Rattle.vdr_media.specs.Writing.{HasClosedGate, HasCauseAmong, SameBesides};
 
 use crate::laying::make_empty;
+use crate::layout::MEMBERS;
 use vdr_config::Config;
 use vdr_outside::{Fault, Media, write_through};
 use vdr_segment::CLOSED_GATE;
@@ -39,6 +40,30 @@ fn unformat<M: Media>(media: &mut M, formatted: bool) -> Result<(), Fault>
         return Ok(());
     }
     write_through(media, 0, 0, &[CLOSED_GATE])
+}
+
+// Makes each medium from number 1 up to the count an empty one with this configuration, from the last on.
+fn make_others_empty<M: Media>(
+    media: &mut M,
+    count: u8,
+    config: &Config,
+    text: &[u8],
+) -> Result<(), Fault>
+    requires two { 2 ≤ count }
+    requires there { count ≤ length (M.disk media.old).sizes }
+    requires reads { configuration text.now ≡ Ok config.now }
+    requires fits { (k : ℕ) → 1 ≤ k → k < count → Fits (sizes_of config.now) k (get_or (M.disk media.old).sizes k 0) }
+    ensures meanwhile { AtEachMoment (M.disk media.old) (M.disk media.new) (SameBesides 1 count (M.disk media.old).now) }
+    ensures done { OnOk result ((k : ℕ) → 1 ≤ k → k < count → Settled k (IsEmptyMedium k config.now text.now) (M.disk media.new)) }
+    ensures others { M.tells → (k : ℕ) → (k < 1) ⊎ (count ≤ k) → content (M.disk media.new).reads k ≡ content (M.disk media.old).reads k }
+    ensures sizes { (M.disk media.new).sizes ≡ (M.disk media.old).sizes }
+    ensures counts { M.bytes_read media.new ≡ M.bytes_read media.old }
+    ensures cause { HasCauseAmong (members_with (count - 2)) (M.faults media.old) (M.faults media.new) result }
+{
+    for m in (1..count).rev() {
+        make_empty(media, m, config, text)?;
+    }
+    Ok(())
 }
 
 // Makes the capsule and the long-term medium empty ones with this configuration. The gate of medium 0 decides whether they are
@@ -65,6 +90,6 @@ pub(crate) fn make_all_empty<M: Media>(
     ensures cause { HasCauseAmong members (M.faults media.old) (M.faults media.new) result }
 {
     unformat(media, formatted)?;
-    make_empty(media, 1, config, text)?;
+    make_others_empty(media, MEMBERS, config, text)?;
     make_empty(media, 0, config, text)
 }

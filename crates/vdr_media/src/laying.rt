@@ -59,8 +59,12 @@ fn write_text<M: Media>(media: &mut M, m: u8, text: &[u8]) -> Result<(), Failed>
     media.write(m, TEXT_FROM + 4, text)
 }
 
-// Lays out medium m behind the gate of its superblock, and syncs it.
-fn lay_out<M: Media>(media: &mut M, m: u8, config: &Config, text: &[u8]) -> Result<(), Failed>
+/// Lays out medium m behind the gate of its superblock, and syncs it: the gates of all its slots and incident slots are closed, and its
+/// configuration and its superblock are written. Byte 0, the gate of the superblock, is left as it is: with an open one the medium is an
+/// empty one with this configuration. `text` is the bytes of the configuration, and the medium has the slots that it needs.
+///
+/// `Failed`: a write or the sync failed, and the count of faults of this medium rose.
+pub fn lay_out<M: Media>(media: &mut M, m: u8, config: &Config, text: &[u8]) -> Result<(), Failed>
     requires there { m < length (M.disk media.old).sizes }
     requires reads { configuration text.now ≡ Ok config.now }
     requires fits { Fits (sizes_of config.now) m (get_or (M.disk media.old).sizes m 0) }

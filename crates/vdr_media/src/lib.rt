@@ -12,6 +12,7 @@ mod refused;
 mod superblock;
 
 pub use formatting::{are_formatted, format};
-pub use layout::TEXT_FROM;
+pub use laying::lay_out;
+pub use layout::{MEMBERS, TEXT_FROM};
 pub use refused::FormatRefused;
 pub use superblock::superblock_bytes;

@@ -20,7 +20,8 @@ use Rattle.vdr_media.specs.Medium.{HoldsText, IsSuperblock}
 use Rattle.vdr_media.specs.Formatted.{IsUnformatted}
 use Rattle.vdr_media.proofs.Rooms.{text_fits}
 use Rattle.vdr_ring.specs.Whole.{is_filled}
-use Rattle.vdr_opening.specs.Media.{members, HasFront, HasSegments, IsMedium, Contents, HoldsContents, AreThereBy, slots_on}
+use Rattle.vdr_media.proofs.Members.{of_each}
+use Rattle.vdr_opening.specs.Media.{members_in, members_with, further_in, HasFront, HasSegments, IsMedium, Contents, HoldsContents, AreThereBy, slots_on}
 use Rattle.std.specs.Prelude.{option_and_then}
 use Rattle.std.proofs.lemmas.List.{take-append-drop, length-take-le, get_or-take}
 use Rattle.std.proofs.lemmas.Option.{slice_get-get_or}
@@ -75,7 +76,7 @@ table_once {c} {d} {xs} {ys} {bytes} same held kept =
 
 -- Each medium is legal, with one configuration.
 pub record AreMedia (image : Image) (c : Configuration) (text : List ℕ) (placed : ℕ → List Placed) : Type 0 where
-  pub each : All (λ m. IsMedium m c text (placed m) (content image m)) members
+  pub each : All (λ m. IsMedium m c text (placed m) (content image m)) (members_in image)
 
 module _ {image : Image} {c d : Configuration} {s t : List ℕ} {ps qs : ℕ → List Placed} (h : AreMedia image c s ps) (k : AreMedia image d t qs) where
   pub one_config : c ≡ d
@@ -84,11 +85,10 @@ module _ {image : Image} {c d : Configuration} {s t : List ℕ} {ps qs : ℕ →
   pub one_configured_text : s ≡ t
   one_configured_text = (one_front (h.each 0 0 (omega arith)).front (k.each 0 0 (omega arith)).front).1
 
-  pub one_capsule : ps 0 ≡ qs 0
-  one_capsule = one_segments one_config (h.each 0 0 (omega arith)).segments (k.each 0 0 (omega arith)).segments
-
-  pub one_long_term : ps 1 ≡ qs 1
-  one_long_term = one_segments one_config (h.each 1 0 (omega arith)).segments (k.each 1 0 (omega arith)).segments
+  pub one_placed_at : (m : ℕ) → m < 2 + further_in image → ps m ≡ qs m
+  one_placed_at m lt =
+      one_segments one_config (of_each (λ k. IsMedium k c s (ps k) (content image k)) (further_in image) h.each m lt).segments
+      (of_each (λ k. IsMedium k d t (qs k) (content image k)) (further_in image) k.each m lt).segments
 
   pub one_incidents : {xs ys : List (Option Incident)}
       → HoldsTable c.incident_slots xs (content image 1) → HoldsTable d.incident_slots ys (content image 1) → xs ≡ ys
@@ -97,17 +97,19 @@ module _ {image : Image} {c d : Configuration} {s t : List ℕ} {ps qs : ℕ →
 -- Contents
 
 pub are_legal : {image : Image} {x : Contents} → HoldsContents image x → AreMedia image x.config x.text x.placed
-are_legal h = record { each = h.media }
+are_legal {image} {x} h = record { each = subst (λ (n : ℕ). All (λ m. IsMedium m x.config x.text (x.placed m) (content image m)) (members_with n)) h.further h.media }
 
 -- and whether each medium is filled.
-pub one_filled : {image : Image} {x y : Contents} → HoldsContents image x → HoldsContents image y → (x.filled 0 ≡ y.filled 0) × (x.filled 1 ≡ y.filled 1)
-one_filled {image} {x} {y} h k =
+pub filled_at : {image : Image} {x : Contents} → HoldsContents image x → (m : ℕ) → m < 2 + further_in image → x.filled m ≡ is_filled (slots_on x.config image m) (x.placed m)
+filled_at {image} {x} h m lt =
+    of_each (λ k. x.filled k ≡ is_filled (slots_on x.config image k) (x.placed k)) (further_in image)
+    (subst (λ (n : ℕ). All (λ k. x.filled k ≡ is_filled (slots_on x.config image k) (x.placed k)) (members_with n)) h.further h.filled) m lt
+
+pub one_filled : {image : Image} {x y : Contents} → HoldsContents image x → HoldsContents image y → (m : ℕ) → m < 2 + further_in image → x.filled m ≡ y.filled m
+one_filled {image} {x} {y} h k m lt =
     let config = one_config (are_legal h) (are_legal k) in
-    let first = one_capsule (are_legal h) (are_legal k) in
-    let second = one_long_term (are_legal h) (are_legal k) in (
-      h.filled 0 0 (omega arith) ∙ (λ i. is_filled (slots_on (config i) image 0) (first i)) ∙ sym (k.filled 0 0 (omega arith)),
-      h.filled 1 0 (omega arith) ∙ (λ i. is_filled (slots_on (config i) image 1) (second i)) ∙ sym (k.filled 1 0 (omega arith)),
-    )
+    let segments = one_placed_at (are_legal h) (are_legal k) m lt in
+    filled_at h m lt ∙ (λ i. is_filled (slots_on (config i) image m) (segments i)) ∙ sym (filled_at k m lt)
 
 -- A medium with a superblock is formatted, and so are media that hold contents.
 pub never_unformatted : (m segment : ℕ) (image : Image) → IsSuperblock m segment (content image 0) → IsUnformatted image → ⊥

@@ -1,5 +1,5 @@
 -- How many bytes opening reads, one part of the media after another.
-use Rattle.std.proofs.Common.{◌≡◌, ◌≤◌, ◌<◌, ◌+◌, ◌*◌, ℕ, List, get_or, zero, suc, inl, inr, refl, sym, ◌∙◌, subst, arith}
+use Rattle.std.proofs.Common.{◌≡◌, ◌≤◌, ◌<◌, ◌+◌, ◌*◌, ℕ, List, get_or, length, zero, suc, inl, inr, refl, sym, ◌∙◌, subst, arith}
 use Rattle.std.specs.Prelude.{All}
 use Rattle.std.proofs.lemmas.Bool.{cases_eq}
 use Rattle.vdr_terms.specs.Slots.{slot_count}
@@ -12,10 +12,10 @@ use Rattle.vdr_directory.specs.Costs.{ReadsAtMost, lacking}
 use Rattle.vdr_directory.specs.Sequence.{Placed}
 use Rattle.vdr_directory.proofs.CostLemmas.{reads_none, reads_counted, reads_join, reads_more}
 use Rattle.vdr_ring.specs.Rings.{HoldsNewest, RingState}
-use Rattle.vdr_media.proofs.Two.{of_each}
-use Rattle.vdr_opening.specs.Media.{members}
+use Rattle.vdr_media.proofs.Members.{of_each}
+use Rattle.vdr_media.specs.Formatted.{members_with}
 use Rattle.vdr_opening.specs.Costs.{ReadsParts, opening_bytes}
-use Rattle.vdr_opening.specs.Answers.{ring_at}
+use Rattle.vdr_opening.specs.Answers.{further_on, members_on, ring_at}
 use Rattle.vdr_ring.specs.Openings.{IsRingOf}
 use Rattle.vdr_opening.specs.Parts.{KnowsMedium}
 
@@ -94,26 +94,26 @@ behind_bound x y z front n more slots bare sum first second = omega (arith, sum,
 before_bound : (x y z front n more slots bare : ℕ) → front + n ≤ more → y ≤ x + n → z ≤ y + (front + slots + bare) → z ≤ x + (more + slots + bare)
 before_bound x y z front n more slots bare sum first second = omega (arith, sum, first, second)
 
-module _ (front segment : ℕ) (known : ℕ → List Placed) (sizes before mid now : List ℕ) (m n more : ℕ) (lt : m < 2) (sum : front + n ≤ more) where
+module _ (front segment : ℕ) (known : ℕ → List Placed) (sizes before mid now : List ℕ) (m n more further : ℕ) (lt : m < 2 + further) (sum : front + n ≤ more) where
   -- behind them
-  pub parts_more : ReadsParts front segment known sizes before mid → ReadsAtMost m n mid now → ReadsParts more segment known sizes before now
+  pub parts_more : ReadsParts further front segment known sizes before mid → ReadsAtMost m n mid now → ReadsParts further more segment known sizes before now
   parts_more all h = record {
     each = λ i d there.
-        let k = get_or members i d in
+        let k = get_or (members_with further) i d in
         behind_bound (get_or before k 0) (get_or mid k 0) (get_or now k 0) front n more (64 * slot_count segment (get_or sizes k 0)) (segment * lacking (known k)) sum (all.each i d there) (at_most m n k mid now h);
     others = λ k above. h.others k (λ is. omega (arith, is, above, lt)) ∙ all.others k above;
   }
 
   -- before them
-  pub more_parts : ReadsAtMost m n before mid → ReadsParts front segment known sizes mid now → ReadsParts more segment known sizes before now
+  pub more_parts : ReadsAtMost m n before mid → ReadsParts further front segment known sizes mid now → ReadsParts further more segment known sizes before now
   more_parts h all = record {
     each = λ i d there.
-        let k = get_or members i d in
+        let k = get_or (members_with further) i d in
         before_bound (get_or before k 0) (get_or mid k 0) (get_or now k 0) front n more (64 * slot_count segment (get_or sizes k 0)) (segment * lacking (known k)) sum (at_most m n k before mid h) (all.each i d there);
     others = λ k above. all.others k above ∙ h.others k (λ is. omega (arith, is, above, lt));
   }
 
 -- The last batches, of rings whose buffers hold them
 
-pub next_held : (on now : List RingState) (m : ℕ) → m < 2 → ring_at now m ≡ ring_at on m → All (λ k. HoldsNewest (ring_at on k)) members → HoldsNewest (ring_at now m)
-next_held on now m lt same held = subst (λ (ring : RingState). HoldsNewest ring) (sym same) (of_each (λ k. HoldsNewest (ring_at on k)) held m lt)
+pub next_held : (on now : List RingState) (m : ℕ) → m < length on → ring_at now m ≡ ring_at on m → All (λ k. HoldsNewest (ring_at on k)) (members_on on) → HoldsNewest (ring_at now m)
+next_held on now m lt same held = subst (λ (ring : RingState). HoldsNewest ring) (sym same) (of_each (λ k. HoldsNewest (ring_at on k)) (further_on on) held m (omega (arith, lt)))

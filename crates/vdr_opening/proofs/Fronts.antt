@@ -1,5 +1,5 @@
 -- The segment size that a superblock says, and what `!=` says of bytes.
-use Rattle.std.proofs.Common.{◌≡◌, ℕ, Bool, true, false, List, sym, ◌∙◌, ap, ◌-◌, ◌≤◌, [], ◌∷◌, ◌++◌, length, get_or, take, drop, slice_get, Some, refl, arith, append_assoc, ◌+◌, ◌<◌, ◌^◌, subst, ◌↔◌, Option, Ok, Err, Result, IsTrue, ◌*◌, inl, zero, suc, replicate, None}
+use Rattle.std.proofs.Common.{◌≡◌, ℕ, Bool, true, false, List, sym, ◌∙◌, ap, ◌-◌, ◌≤◌, [], ◌∷◌, ◌++◌, length, get_or, take, drop, slice_get, Some, refl, arith, append_assoc, ◌+◌, ◌<◌, ◌^◌, subst, ◌↔◌, Option, Ok, Err, Result, IsTrue, ◌*◌, zero, suc, replicate, None}
 use Rattle.std.specs.Prelude.{bytes_eq, not, IfSome}
 use Rattle.std.proofs.lemmas.Slice.Eq.{bytes_eq-Decides}
 use Rattle.std.proofs.lemmas.Bool.{lt-leb}
@@ -17,6 +17,7 @@ use Rattle.vdr_terms.specs.Legality.{IsBytes}
 use Rattle.vdr_outside.specs.Parts.{part}
 use Rattle.vdr_opening.proofs.ContentsHeld.{one_number, one_text}
 use Rattle.vdr_terms.specs.Needs.{Fits}
+use Rattle.vdr_terms.specs.Records.{last}
 use Rattle.vdr_outside.specs.declared.fault.PartRefused.{PartRefused}
 use Rattle.vdr_outside.specs.declared.fault.PartRefused.TheVariants.{Damaged}
 use Rattle.vdr_config.specs.Configuration.{Configuration}
@@ -24,10 +25,10 @@ use Rattle.vdr_config.specs.Grammar.{configuration}
 use Rattle.vdr_config.specs.Sizes.{sizes_of}
 use Rattle.vdr_media.proofs.Rooms.{text_fits, slots_fit, some_slot}
 use Rattle.vdr_ring.specs.Whole.{is_filled}
-use Rattle.vdr_opening.specs.Media.{HasFront, members, AreThere, HoldsContents, IsMedium, nothing_on, reading_of, slots_on}
+use Rattle.vdr_opening.specs.Media.{HasFront, members_with, further_in, AreThere, HoldsContents, IsMedium, nothing_on, reading_of, slots_on}
 use Rattle.std.proofs.lemmas.List.Elements.{All-nil}
 use Rattle.vdr_core.specs.Histories.{Incident}
-use Rattle.vdr_durability.specs.Readings.{EndsMeet}
+use Rattle.vdr_durability.specs.Readings.{EndsMeet, leading_batch}
 use Rattle.vdr_outside.specs.Disk.{Image, content}
 use Rattle.vdr_config.proofs.Ranges.{ranges_of}
 use Rattle.vdr_segment.specs.Segments.{IsSlot, Segment}
@@ -37,7 +38,8 @@ use Rattle.vdr_directory.specs.Sequence.{Placed}
 use Rattle.vdr_incident.specs.Saves.{IsIncidentSlot}
 use Rattle.vdr_incident.specs.Tables.{HoldsTable}
 use Rattle.vdr_media.specs.Formatted.{IsEmptyHistory}
-use Rattle.vdr_media.proofs.Two.{all_two}
+use Rattle.vdr_media.proofs.Members.{of_all, of_each}
+use Rattle.vdr_durability.proofs.Meeting.{level_meet}
 
 is_true : (b : Bool) → not b ≡ false → b ≡ true
 is_true true is = cc
@@ -290,13 +292,18 @@ none_missing n placed k d lt =
     let size = length-replicate {A = Option Incident} n None in
     subst (λ (slot : Option Incident). IfSome slot (λ incident. HoldAll incident.a incident.b placed)) (sym (get_or-replicate n k None d (omega (arith, lt, size)))) tt
 
-pub empty_holds : (image : Image) (c : Configuration) (text : List ℕ) → IsEmptyHistory members c text image → HoldsContents image (nothing_on c text)
-empty_holds image c text h = record {
-  media = all_two (λ m. IsMedium m c text [] (content image m)) (empty_is_medium 0 c text (content image 0) (h.each 0 0 (omega arith))) (empty_is_medium 1 c text (content image 1) (h.each 1 1 (omega arith)));
+pub empty_holds : (further : ℕ) (image : Image) (c : Configuration) (text : List ℕ) → further ≡ further_in image → IsEmptyHistory (members_with further) c text image → HoldsContents image (nothing_on further c text)
+empty_holds further image c text version h = record {
+  further = version;
+  media = of_all (λ m. IsMedium m c text [] (content image m)) further
+      (λ k lt. empty_is_medium k c text (content image k) (of_each (λ m. IsEmptyMedium m c text (content image m)) further h.each k lt));
   table = empty_table 1 c text (content image 1) (h.each 1 1 (omega arith));
   there = none_missing c.incident_slots [];
-  filled = all_two (λ m. false ≡ is_filled (slots_on c image m) []) (none_filled 0 c text (content image 0) (h.each 0 0 (omega arith))) (none_filled 1 c text (content image 1) (h.each 1 1 (omega arith)));
+  filled = of_all (λ m. false ≡ is_filled (slots_on c image m) []) further
+      (λ k lt. none_filled k c text (content image k) (of_each (λ m. IsEmptyMedium m c text (content image m)) further h.each k lt));
 }
 
-pub empty_meet : (c : Configuration) (text : List ℕ) → EndsMeet members (reading_of (nothing_on c text))
-empty_meet c text = inl (refl, inl (refl, tt))
+pub empty_meet : (further : ℕ) (c : Configuration) (text : List ℕ) → EndsMeet (members_with further) (reading_of (nothing_on further c text))
+empty_meet further c text =
+    let reading = reading_of (nothing_on further c text) in
+    level_meet (members_with further) reading (of_all (λ m. last (reading.batches m) ≡ leading_batch (members_with further) reading) further (λ k lt. refl))

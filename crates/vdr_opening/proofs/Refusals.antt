@@ -1,5 +1,5 @@
 -- Opening has one answer: which part is the first that is not legal, and where.
-use Rattle.std.proofs.Common.{◌≡◌, ℕ, List, [], ◌∷◌, length, All, Option, Some, None, inl, inr, sym, ◌∙◌, subst, arith, ◌++◌, ap, ◌⊎◌, refl}
+use Rattle.std.proofs.Common.{◌≡◌, ◌<◌, ◌+◌, ℕ, List, [], ◌∷◌, length, All, Option, Some, None, inl, inr, sym, ◌∙◌, subst, arith, ◌++◌, ap, ◌⊎◌, refl}
 use Rattle.std.proofs.lemmas.List.Elements.{All-head, All-tail, All-contains, Contains-append_right}
 use Rattle.vdr_outside.specs.Disk.{Image, content}
 use Rattle.vdr_directory.specs.Sequence.{Placed, batches_in}
@@ -15,12 +15,12 @@ use Rattle.vdr_durability.proofs.Lists.{contains_here}
 use Rattle.vdr_incident.specs.Tables.{HoldsTable, place_of}
 use Rattle.vdr_incident.specs.Tables as incidents
 use Rattle.vdr_incident.proofs.Holding.{held_not_refused as table_not_refused, one_refused}
-use Rattle.vdr_media.proofs.Two.{all_two}
-use Rattle.vdr_opening.specs.Media.{members, HasFront, IsMediumBy, AreThereBy, Contents, HoldsParts, reading_of}
+use Rattle.vdr_media.proofs.Members.{of_all}
+use Rattle.vdr_opening.specs.Media.{members_in, members_with, HasFront, IsMediumBy, AreThereBy, Contents, HoldsParts, reading_of}
 use Rattle.vdr_opening.specs.Refusals.{IsSameText, RefusesSegments, RefusesMedium, RefusesFrom, AreLegal, RefusesIncidents, RefusesPlaces, RefusesEnds, IsRefused}
 use Rattle.vdr_opening.specs.Parts.{IsThere}
 use Rattle.vdr_opening.proofs.ContentsHeld.{one_front, table_once}
-use Rattle.vdr_opening.proofs.PartsHeld.{are_legal, one_config, one_capsule, one_long_term}
+use Rattle.vdr_opening.proofs.PartsHeld.{are_legal, one_config, one_long_term, one_placed_known}
 use Rattle.vdr_opening.proofs.SameEnds.{EndsAlike, same_end, same_off}
 
 -- The slots of a configuration are refused at this offset.
@@ -83,8 +83,8 @@ module _ (image : Image) where
 
   -- Media that are legal are not refused before their incidents.
   pub media_legal : {c : Configuration} {text : List ℕ} {known : ℕ → List Placed} (m offset : ℕ)
-      → AreLegal image c text known → RefusesFrom None members image m offset → ⊥
-  media_legal {c} {text} {known} m offset h r = legal_from members None c text known m offset h.each tt r
+      → AreLegal image c text known → RefusesFrom None (members_in image) image m offset → ⊥
+  media_legal {c} {text} {known} m offset h r = legal_from (members_in image) None c text known m offset h.each tt r
 
 -- Opening has one answer: each part is tested behind those that are legal, so that no two parts are the first that is not.
 
@@ -143,27 +143,27 @@ module _ (image : Image) where
 
   -- What is read of the image has one first medium whose end is off.
   one_end : (x y : Contents) (m : ℕ)
-      → HoldsParts image x → HoldsParts image y → EndsOff members (reading_of x) m → EndsOff members (reading_of y) m
+      → HoldsParts image x → HoldsParts image y → EndsOff (members_with x.further) (reading_of x) m → EndsOff (members_with y.further) (reading_of y) m
   one_end x y m h k off =
-      same_off (reading_of x) (reading_of y) members m
-      (all_two (EndsAlike (reading_of x) (reading_of y))
-      (same_end (ap batches_in (one_capsule (are_legal h) (are_legal k)))) (same_end (ap batches_in (one_long_term (are_legal h) (are_legal k))))) off
+      same_off (reading_of x) (reading_of y) (members_with y.further) m
+      (of_all (EndsAlike (reading_of x) (reading_of y)) y.further (λ j lt. same_end (ap batches_in (one_placed_known (are_legal h) (are_legal k) j (subst (λ (n : ℕ). j < 2 + n) k.further lt)))))
+      (subst (λ (n : ℕ). EndsOff (members_with n) (reading_of x) m) (h.further ∙ sym k.further) off)
 
   ends_once : (m n a b : ℕ) → RefusesEnds image m a → RefusesEnds image n b → (m ≡ n) × (a ≡ b)
-  ends_once m n a b r s = (one_off members (reading_of s.parts) m n (one_end r.parts s.parts m r.holds s.holds r.off) s.off, r.at ∙ sym s.at)
+  ends_once m n a b r s = (one_off (members_with s.parts.further) (reading_of s.parts) m n (one_end r.parts s.parts m r.holds s.holds r.off) s.off, r.at ∙ sym s.at)
 
 -- All parts
 
 -- Media of which all that is read is legal and whose ends meet are not refused.
-pub held_not_refused : (image : Image) (x : Contents) (m offset : ℕ) → HoldsParts image x → EndsMeet members (reading_of x) → IsRefused image m offset → ⊥
+pub held_not_refused : (image : Image) (x : Contents) (m offset : ℕ) → HoldsParts image x → EndsMeet (members_with x.further) (reading_of x) → IsRefused image m offset → ⊥
 held_not_refused image x m offset h meet (inl r) = media_legal image m offset (are_legal h) r
 held_not_refused image x m offset h meet (inr (inl r)) = table_legal image x.table m offset (are_legal h) h.table r
 held_not_refused image x m offset h meet (inr (inr (inl r))) = places_legal image x m offset h r
-held_not_refused image x m offset h meet (inr (inr (inr r))) = none_off members (reading_of x) m meet (one_end image r.parts x m r.holds h r.off)
+held_not_refused image x m offset h meet (inr (inr (inr r))) = none_off (members_with x.further) (reading_of x) m meet (one_end image r.parts x m r.holds h r.off)
 
 -- A part is refused where those before it are legal.
 module _ (image : Image) (m n a b : ℕ) where
-  media_first : RefusesFrom None members image m a → RefusesIncidents image n b ⊎ (RefusesPlaces image n b ⊎ RefusesEnds image n b) → ⊥
+  media_first : RefusesFrom None (members_in image) image m a → RefusesIncidents image n b ⊎ (RefusesPlaces image n b ⊎ RefusesEnds image n b) → ⊥
   media_first r (inl s) = media_legal image m a s.legal r
   media_first r (inr (inl s)) = media_legal image m a s.legal r
   media_first r (inr (inr s)) = media_legal image m a (are_legal s.holds) r
@@ -177,7 +177,7 @@ module _ (image : Image) (m n a b : ℕ) where
 
 -- Those that are refused are refused at one offset of one medium.
 pub one_answer : (image : Image) (m offset k other : ℕ) → IsRefused image m offset → IsRefused image k other → (m ≡ k) × (offset ≡ other)
-one_answer image m a n b (inl r) (inl s) = from_once image members None m n a b r s
+one_answer image m a n b (inl r) (inl s) = from_once image (members_in image) None m n a b r s
 one_answer image m a n b (inl r) (inr s) = absurd (media_first image m n a b r s)
 one_answer image m a n b (inr r) (inl s) = absurd (media_first image n m b a s r)
 one_answer image m a n b (inr (inl r)) (inr (inl s)) = slots_once image m n a b r s

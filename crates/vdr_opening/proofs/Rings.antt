@@ -1,5 +1,5 @@
 -- What calls that only read leave as it was.
-use Rattle.std.proofs.Common.{◌≡◌, ℕ, List, sym, ◌∙◌, ap, subst, Option, Some, None, IfSome, get_or, length, ◌<◌, ◌+◌, inl, inr, zero, suc, [], ◌∷◌, ◌++◌, set, take, IfNone, arith, get_or-set_same, get_or-set_other, length-set, ◌≤◌, drop, cond, ◌==◌, Result, Err}
+use Rattle.std.proofs.Common.{◌≡◌, ℕ, List, sym, ◌∙◌, ap, subst, Option, Some, None, IfSome, get_or, length, ◌<◌, ◌+◌, inl, inr, [], ◌∷◌, ◌++◌, set, take, IfNone, arith, get_or-set_same, get_or-set_other, length-set, ◌≤◌, ◌-◌, ◌⊎◌, drop, Result, Err}
 use Rattle.vdr_outside.specs.Disk.{Disk, Image, Durable, Unchanged, content}
 use Rattle.vdr_directory.specs.Holds.{HoldsPlaced}
 use Rattle.vdr_directory.specs.Order.{AreInOrder}
@@ -14,15 +14,15 @@ use Rattle.vdr_config.specs.Configuration.{Configuration}
 use Rattle.vdr_config.specs.Sizes.{sizes_of}
 use Rattle.vdr_directory.specs.Opening.{AreKnown, Refuses, HasFaultCause, slot_bytes}
 use Rattle.vdr_terms.specs.Slots.{slot_count}
-use Rattle.vdr_opening.specs.Media.{HasFront, members, IsMedium, IsMediumBy}
+use Rattle.vdr_opening.specs.Media.{HasFront, members_with, IsMedium, IsMediumBy}
 use Rattle.vdr_opening.specs.Refusals.{IsSameText, RefusesSegments, IsLegalBehind, RefusesFrom, RefusesMedium}
 use Rattle.vdr_opening.specs.declared.text.Configured.{Configured}
 use Rattle.vdr_opening.specs.Parts.{KnowsMedium, ReadsLegal, text_of, AreKnownTo, KeepsRings, HasPartCause, refusal_by}
 use Rattle.std.specs.Prelude.{All, Any, IsErrOf}
-use Rattle.std.proofs.lemmas.Bool.{cases_eq}
+use Rattle.std.proofs.lemmas.Bool.{cases_eq, cases_lt}
 use Rattle.std.proofs.lemmas.List.{get_or_append_left, get_or_push, take-append-le, take_all}
-use Rattle.vdr_media.proofs.Two.{all_two, any_at}
-use Rattle.vdr_opening.specs.Answers.{AreJudgedOn, no_ring, ring_at, HasOpenCause}
+use Rattle.vdr_media.proofs.Members.{any_at, numbers, of_all, rest_at}
+use Rattle.vdr_opening.specs.Answers.{AreJudgedOn, further_on, members_on, no_ring, ring_at, HasOpenCause}
 use Rattle.vdr_ring.specs.Openings.{IsRingOf}
 use Rattle.vdr_outside.specs.Causes.{NoneFalls, Rose}
 use Rattle.vdr_outside.specs.declared.fault.PartRefused.{PartRefused}
@@ -131,10 +131,11 @@ module _ {tells tells_images : Type 0} where
       → (HasJudged ring before → HasJudged new after) → Unchanged before after → KeepsRings on (set on m new) before after
   keeps_one on m ring new before after there is same reads knows judged unchanged = record {
     of_media = λ c sizes are. record {
-      count = length-set on m new ∙ are.count;
-      each = λ i d lt. each_set (λ k r. IsRingOf c sizes k (ring_at on k) → IsRingOf c sizes k r) on m new there (λ k was. was)
-          (λ was. subst (IsRingOf c sizes m) (sym same) (ring_of c sizes m ring new.buffer new.loaded (subst (IsRingOf c sizes m) (sym is) was))) (get_or members i d) (are.each i d lt);
+      two = let same = length-set on m new in let two = are.two in omega (arith, same, two);
+      each = subst (λ (n : ℕ). All (λ k. IsRingOf c sizes k (ring_at (set on m new) k)) (members_with (n - 2))) (sym (length-set on m new)) (λ i d lt. each_set (λ k r. IsRingOf c sizes k (ring_at on k) → IsRingOf c sizes k r) on m new there (λ k was. was)
+          (λ was. subst (IsRingOf c sizes m) (sym same) (ring_of c sizes m ring new.buffer new.loaded (subst (IsRingOf c sizes m) (sym is) was))) (get_or (members_on on) i d) (are.each i d lt));
     };
+    size = length-set on m new;
     reads = each_set (λ k r. (placed : List Placed) → rings.Reads (ring_at on k) placed before → rings.Reads r placed after) on m new there (λ k placed. reads_still (ring_at on k) placed before after unchanged)
         (λ placed r. reads placed (subst (λ (x : RingState). rings.Reads x placed before) (sym is) r));
     knows = each_set (λ k r. (known : List Placed) → rings.Knows (ring_at on k) known before → rings.Knows r known after) on m new there (λ k known. knows_still (ring_at on k) known before after unchanged)
@@ -146,6 +147,7 @@ module _ {tells tells_images : Type 0} where
 
   pub keeps_join : (on mid new : List RingState) (a b c : Disk tells tells_images) → KeepsRings on mid a b → KeepsRings mid new b c → KeepsRings on new a c
   keeps_join on mid new a b c x y = record {
+    size = y.size ∙ x.size;
     of_media = λ config sizes are. y.of_media config sizes (x.of_media config sizes are);
     reads = λ m placed r. y.reads m placed (x.reads m placed r);
     knows = λ m known r. y.knows m known (x.knows m known r);
@@ -154,27 +156,26 @@ module _ {tells tells_images : Type 0} where
   }
 
   pub known_still : (on new : List RingState) (known : ℕ → List Placed) (before after : Disk tells tells_images) → KeepsRings on new before after → AreKnownTo on known before → AreKnownTo new known after
-  known_still on new known before after kept knows i d lt = kept.knows (get_or members i d) (known (get_or members i d)) (knows i d lt)
+  known_still on new known before after kept knows =
+      subst (λ (n : ℕ). All (λ m. rings.Knows (ring_at new m) (known m) after) (members_with (n - 2))) (sym kept.size)
+      (λ i d lt. kept.knows (get_or (members_on on) i d) (known (get_or (members_on on) i d)) (knows i d lt))
 
   pub judged_on : (on new : List RingState) (before after : Disk tells tells_images) → KeepsRings on new before after → AreJudgedOn on before → AreJudgedOn new after
-  judged_on on new before after kept judged i d lt = kept.judged (get_or members i d) (judged i d lt)
+  judged_on on new before after kept judged =
+      subst (λ (n : ℕ). All (λ m. HasJudged (ring_at new m) after) (members_with (n - 2))) (sym kept.size) (λ i d lt. kept.judged (get_or (members_on on) i d) (judged i d lt))
 
   pub judged_lent : (on lent : List RingState) (before after : Disk tells tells_images) → lent ≡ on → Unchanged before after → AreJudgedOn on before → AreJudgedOn lent after
   judged_lent on lent before after is still judged =
-      subst (λ (l : List RingState). AreJudgedOn l after) (sym is) (λ i d lt. judged_still (ring_at on (get_or members i d)) before after still (judged i d lt))
+      subst (λ (l : List RingState). AreJudgedOn l after) (sym is) (λ i d lt. judged_still (ring_at on (get_or (members_on on) i d)) before after still (judged i d lt))
 
 -- One medium after another is read, and each is legal behind those before it or refused.
 
-module _ (before : Option (List ℕ)) (image : Image) (m offset : ℕ) where
-  pub refused_at : (k : ℕ) → k < 2 → m ≡ k → RefusesMedium k before (content image k) offset → RefusesFrom before (drop k members) image m offset
-  refused_at zero lt is refuses = inl (is, refuses)
-  refused_at (suc zero) lt is refuses = inl (is, refuses)
-  refused_at (suc (suc k)) lt is refuses = absurd (omega (arith, lt))
+module _ (before : Option (List ℕ)) (image : Image) (m offset n : ℕ) where
+  pub refused_at : (k : ℕ) → k < 2 + n → m ≡ k → RefusesMedium k before (content image k) offset → RefusesFrom before (drop k (members_with n)) image m offset
+  refused_at k lt is refuses = subst (λ (ks : List ℕ). RefusesFrom before ks image m offset) (sym (rest_at (numbers n) k lt)) (inl (is, refuses))
 
-  pub legal_at : (k : ℕ) (text : List ℕ) → k < 2 → IsLegalBehind k before text (content image k) → RefusesFrom (Some text) (drop (k + 1) members) image m offset → RefusesFrom before (drop k members) image m offset
-  legal_at zero text lt legal refuses = inr (text, legal, refuses)
-  legal_at (suc zero) text lt legal refuses = inr (text, legal, refuses)
-  legal_at (suc (suc k)) text lt legal refuses = absurd (omega (arith, lt))
+  pub legal_at : (k : ℕ) (text : List ℕ) → k < 2 + n → IsLegalBehind k before text (content image k) → RefusesFrom (Some text) (drop (k + 1) (members_with n)) image m offset → RefusesFrom before (drop k (members_with n)) image m offset
+  legal_at k text lt legal refuses = subst (λ (ks : List ℕ). RefusesFrom before ks image m offset) (sym (rest_at (numbers n) k lt)) (inr (text, legal, refuses))
 
 -- What a ring knows, and what it reads where its medium is legal, stays where nothing is written.
 module _ {tells tells_images : Type 0} (m : ℕ) (c : Configuration) (text : List ℕ) (ring : RingState) (old new : Disk tells tells_images) (same : Unchanged old new) (told : tells) where
@@ -190,30 +191,58 @@ module _ {tells tells_images : Type 0} (m : ℕ) (c : Configuration) (text : Lis
 -- The media with the configuration of them all
 
 -- what is said of each
-pub each_read : (P : Configured → ℕ → Type 0) (before : Option Configured) (now : Configured) (m : ℕ) → before ≡ Some now → 2 ≤ m → IfSome before (λ first. (k : ℕ) → k < m → P first k) → All (P now) members
-each_read P before now m is all each =
+pub each_read : (P : Configured → ℕ → Type 0) (before : Option Configured) (now : Configured) (m n : ℕ) → before ≡ Some now → 2 + n ≤ m → IfSome before (λ first. (k : ℕ) → k < m → P first k) → All (P now) (members_with n)
+each_read P before now m n is all each =
     let known = subst (λ (o : Option Configured). IfSome o (λ first. (k : ℕ) → k < m → P first k)) is each in
-    all_two (P now) (known 0 (omega (arith, all))) (known 1 (omega (arith, all)))
+    of_all (P now) n (λ k lt. known k (omega (arith, all, lt)))
 
 -- what is known of each by its number
-pub all_known : (P : Configured → ℕ → List Placed → Type 0) (before : Option Configured) (now : Configured) (m : ℕ) → before ≡ Some now → 2 ≤ m → IfSome before (λ first. (k : ℕ) → k < m → (known : List Placed) × P first k known) → (known : ℕ → List Placed) × All (λ k. P now k (known k)) members
-all_known P before now m is all each =
+module _ (P : ℕ → List Placed → Type 0) (m : ℕ) (each : (k : ℕ) → k < m → (known : List Placed) × P k known) where
+  pick : (k : ℕ) → (k < m) ⊎ (m ≤ k) → List Placed
+  pick k (inl lt) = (each k lt).0
+  pick k (inr above) = []
+
+  chosen : ℕ → List Placed
+  chosen k = pick k (cases_lt k m)
+
+  picked : (k : ℕ) (side : (k < m) ⊎ (m ≤ k)) → k < m → P k (pick k side)
+  unfolding pick
+  picked k (inl below) lt = (each k below).1
+  picked k (inr above) lt = absurd (omega (arith, above, lt))
+
+  chosen_is : (k : ℕ) → k < m → P k (chosen k)
+  unfolding chosen pick
+  chosen_is k lt = picked k (cases_lt k m) lt
+
+pub all_known : (P : Configured → ℕ → List Placed → Type 0) (before : Option Configured) (now : Configured) (m n : ℕ) → before ≡ Some now → 2 + n ≤ m → IfSome before (λ first. (k : ℕ) → k < m → (known : List Placed) × P first k known)
+    → (known : ℕ → List Placed) × All (λ k. P now k (known k)) (members_with n)
+all_known P before now m n is all each =
     let each_is = subst (λ (o : Option Configured). IfSome o (λ first. (k : ℕ) → k < m → (known : List Placed) × P first k known)) is each in
-    let first = each_is 0 (omega (arith, all)) in
-    let second = each_is 1 (omega (arith, all)) in
-    (λ k. cond (k == 0) first.0 second.0, all_two (λ k. P now k (cond (k == 0) first.0 second.0)) first.1 second.1)
+    (chosen (P now) m each_is, of_all (λ k. P now k (chosen (P now) m each_is k)) n (λ k lt. chosen_is (P now) m each_is k (omega (arith, all, lt))))
+
+-- The media that so many rings are on.
+
+pub from_rings : (P : List ℕ → Type 0) (rings : List RingState) (n : ℕ) → length rings ≡ 2 + n → P (members_on rings) → P (members_with n)
+from_rings P rings n size held = let is : further_on rings ≡ n = omega (arith, size) in subst (λ (k : ℕ). P (members_with k)) is held
+
+pub to_rings : (P : List ℕ → Type 0) (rings : List RingState) (n : ℕ) → length rings ≡ 2 + n → P (members_with n) → P (members_on rings)
+to_rings P rings n size held = let is : n ≡ further_on rings = omega (arith, size) in subst (λ (k : ℕ). P (members_with k)) is held
 
 -- Causes of a fault over the calls on the media.
 
 -- a call on one of the media
-pub part_by : {T : Type 0} (m k : ℕ) (a b : List ℕ) (r : Result T PartRefused) → k ≡ m → m < 2 → HasFaultCause k a b r → HasPartCause a b r
-part_by m k a b r is lt h = record {
+pub part_by : {T : Type 0} (n m k : ℕ) (a b : List ℕ) (r : Result T PartRefused) → k ≡ m → m < 2 + n → HasFaultCause k a b r → HasPartCause (members_with n) a b r
+part_by n m k a b r is lt h = record {
   later = h.later;
-  rose = λ fault. any_at (λ n. Rose (get_or a n 0) (get_or b n 0)) m lt (subst (λ n. Rose (get_or a n 0) (get_or b n 0)) is (h.rose fault));
+  rose = λ fault. any_at (λ j. Rose (get_or a j 0) (get_or b j 0)) n m lt (subst (λ j. Rose (get_or a j 0) (get_or b j 0)) is (h.rose fault));
 }
 
+-- the same media, by another count that is the same
+pub part_moved : {T : Type 0} (k n : ℕ) (a b : List ℕ) (r : Result T PartRefused) → k ≡ n → HasPartCause (members_with (k - 2)) a b r → HasPartCause (members_with (n - 2)) a b r
+part_moved k n a b r is h = subst (λ (j : ℕ). HasPartCause (members_with (j - 2)) a b r) is h
+
 -- an error, after calls that succeeded
-pub part_passed : {T U : Type 0} (a b c : List ℕ) (e : PartRefused) → NoneFalls a b → HasPartCause {T = T} b c (Err e) → HasPartCause {T = U} a c (Err e)
+pub part_passed : {T U : Type 0} {ms : List ℕ} (a b c : List ℕ) (e : PartRefused) → NoneFalls a b → HasPartCause {T = T} ms b c (Err e) → HasPartCause {T = U} ms a c (Err e)
 part_passed a b c e earlier h = record {
   later = none_falls_join a b c earlier h.later;
   rose = λ fault.
@@ -237,12 +266,12 @@ error_of : {T E : Type 0} (x y : E) → ◌≡◌ {A = Result T E} (Err x) (Err 
 error_of x y is = cc
 
 -- an answer where a count of one of the media rose, or that is no fault
-pub open_cause : {T : Type 0} (a c : List ℕ) (r : Result T OpenRefused) → NoneFalls a c → (IsErrOf r refused.Fault → Any (λ m. Rose (get_or a m 0) (get_or c m 0)) members) → HasOpenCause a c r
+pub open_cause : {T : Type 0} {ms : List ℕ} (a c : List ℕ) (r : Result T OpenRefused) → NoneFalls a c → (IsErrOf r refused.Fault → Any (λ m. Rose (get_or a m 0) (get_or c m 0)) ms) → HasOpenCause ms a c r
 open_cause a c r later rose = record { later = later; by_medium = rose; in_all = λ is. let one = rose is in sum_rose a c one.1 later.same_media later.none_falls one.4 }
 
-pub open_failed : {T U : Type 0} (a b c : List ℕ) (e : PartRefused) → NoneFalls a b → HasPartCause {T = T} b c (Err e) → HasOpenCause {T = U} a c (Err (refusal_by e))
-open_failed {T} {U} a b c e earlier h =
-    let whole = part_passed {T = T} {U = T} a b c e earlier h in
+pub open_failed : {T U : Type 0} {ms : List ℕ} (a b c : List ℕ) (e : PartRefused) → NoneFalls a b → HasPartCause {T = T} ms b c (Err e) → HasOpenCause {T = U} ms a c (Err (refusal_by e))
+open_failed {T} {U} {ms} a b c e earlier h =
+    let whole = part_passed {T = T} {U = T} {ms = ms} a b c e earlier h in
     open_cause a c (Err (refusal_by e)) whole.later (λ fault. whole.rose (ap (λ (x : PartRefused). let y : Result T PartRefused = Err x in y) (fault_part e (error_of (refusal_by e) refused.Fault fault))))
 
 -- the part that was refused, from the answer that it was made into

@@ -7,7 +7,7 @@ use Rattle.vdr_terms.specs.Records.{Record, last}
 use Rattle.vdr_durability.specs.Layout.{Batches, segment_records}
 use Rattle.vdr_durability.proofs.Lists.{last_behind}
 use Rattle.vdr_durability.specs.Readings.{Reading, EndBy, EndsMeet, EndsOff, IsPassedOn, comes_next, ends_before, records_on, restored, with_next}
-use Rattle.vdr_opening.specs.Media.{members}
+use Rattle.vdr_opening.specs.Media.{members_with}
 use Rattle.vdr_opening.specs.Answers.{IsMissing}
 
 -- Medium m ends alike in both readings.
@@ -88,10 +88,10 @@ same_passing r s numbers given waiting batch same h = record {
     along : All (EndsAlike r s) (given ++ waiting)
     along = subst (λ (ms : List ℕ). All (EndsAlike r s) ms) h.split same
 
-pub same_missing : (r s : Reading) (missing : List Record) (lacking : ℕ) → All (EndsAlike r s) members → IsMissing missing lacking r → IsMissing missing lacking s
-same_missing r s missing lacking same (inl (none, level)) =
+pub same_missing : (r s : Reading) (n : ℕ) (missing : List Record) (lacking : ℕ) → All (EndsAlike r s) (members_with n) → IsMissing (members_with n) missing lacking r → IsMissing (members_with n) missing lacking s
+same_missing r s n missing lacking same (inl (none, level)) =
     inl (none, λ k d lt. sym (same k d lt).batch ∙ level k d lt ∙ (same 0 0 (omega arith)).batch)
-same_missing r s missing lacking same (inr passed) = inr (same_passing r s members _ _ missing same passed)
+same_missing r s n missing lacking same (inr passed) = inr (same_passing r s (members_with n) _ _ missing same passed)
 
 -- The last record of a medium that leads, as opening restores it
 
@@ -112,7 +112,7 @@ with_next_alike (Some batch) xs ys same =
     go true = last_pushed xs batch ∙ last_longer (segment_records xs) (segment_records ys) batch same ∙ sym (last_pushed ys batch)
     go false = same
 
-pub same_last : (r s : Reading) → EndsAlike r s 0 → last (records_on (restored members r) 0) ≡ last (records_on (restored members s) 0)
-same_last r s same =
+pub same_last : (r s : Reading) (n : ℕ) → EndsAlike r s 0 → last (records_on (restored (members_with n) r) 0) ≡ last (records_on (restored (members_with n) s) 0)
+same_last r s n same =
     with_next_alike (last (r.batches 0)) (r.batches 0) (s.batches 0) same.newest
     ∙ ap (λ (batch : Option (List Record)). last (segment_records (with_next batch (s.batches 0)))) same.batch

@@ -8,7 +8,7 @@ use Rattle.vdr_config.specs.Configuration.{Configuration}
 use Rattle.vdr_config.specs.Grammar.{configuration}
 use Rattle.vdr_terms.specs.Slots.{slot_count}
 use Rattle.vdr_media.specs.Medium.{IsSuperblock, HoldsConfiguration, HoldsText}
-pub use Rattle.vdr_media.specs.Formatted.{members}
+pub use Rattle.vdr_media.specs.Formatted.{members_with, members_in, further_in}
 use Rattle.vdr_directory.specs.Sequence.{Placed, batches_in}
 use Rattle.vdr_directory.specs.Order.{AreInOrder}
 use Rattle.vdr_directory.specs.Holds.{HoldsPlaced}
@@ -45,9 +45,10 @@ pub record IsMedium (m : ℕ) (c : Configuration) (text : List ℕ) (placed : Li
 abbrev pub AreThere : List (Option Incident) → List Placed → Type 0
 AreThere table placed = All (λ slot. IfSome slot (λ incident. HoldAll incident.a incident.b placed)) table
 
--- What legible media hold: the configuration with its text, the segments of each medium by its number, the incidents, and whether at most
--- one slot of each medium is not open.
+-- What legible media hold: how many further media there are, the configuration with its text, the segments of each medium by its
+-- number, the incidents, and whether at most one slot of each medium is not open.
 pub record Contents : Type 0 where
+  pub further : ℕ
   pub config : Configuration
   pub text : List ℕ
   pub placed : ℕ → List Placed
@@ -55,8 +56,8 @@ pub record Contents : Type 0 where
   pub filled : ℕ → Bool
 
 -- The contents of media that were just formatted.
-abbrev pub nothing_on : Configuration → (text : List ℕ) → Contents
-nothing_on c text = record { config = c; text = text; placed = λ m. []; table = replicate c.incident_slots None; filled = λ m. false }
+abbrev pub nothing_on : (further : ℕ) → Configuration → (text : List ℕ) → Contents
+nothing_on further c text = record { further = further; config = c; text = text; placed = λ m. []; table = replicate c.incident_slots None; filled = λ m. false }
 
 -- How many slots medium m of an image has.
 abbrev pub slots_on : Configuration → Image → ℕ → ℕ
@@ -64,10 +65,11 @@ slots_on c image m = slot_count c.segment (length (content image m))
 
 -- The image holds these contents.
 pub record HoldsContents (image : Image) (x : Contents) : Type 0 where
-  pub media : All (λ m. IsMedium m x.config x.text (x.placed m) (content image m)) members
+  pub further : x.further ≡ further_in image
+  pub media : All (λ m. IsMedium m x.config x.text (x.placed m) (content image m)) (members_with x.further)
   pub table : HoldsTable x.config.incident_slots x.table (content image 1)
   pub there : AreThere x.table (x.placed 1)
-  pub filled : All (λ m. x.filled m ≡ is_filled (slots_on x.config image m) (x.placed m)) members
+  pub filled : All (λ m. x.filled m ≡ is_filled (slots_on x.config image m) (x.placed m)) (members_with x.further)
 
 -- What opening reads of media's contents: all, but for the batches of segments whose header has a summary.
 abbrev pub parts_of : Contents → Contents
@@ -89,7 +91,8 @@ AreThereBy table known = All (λ slot. IfSome slot (λ incident. HoldAllBy incid
 
 -- What opening reads of the image is legal, and is this. Batches that it leaves unread may be broken.
 pub record HoldsParts (image : Image) (x : Contents) : Type 0 where
-  pub media : All (λ m. IsMediumBy m x.config x.text (x.placed m) (content image m)) members
+  pub further : x.further ≡ further_in image
+  pub media : All (λ m. IsMediumBy m x.config x.text (x.placed m) (content image m)) (members_with x.further)
   pub table : HoldsTable x.config.incident_slots x.table (content image 1)
   pub there : AreThereBy x.table (x.placed 1)
 
@@ -99,11 +102,11 @@ reading_of x = record { batches = λ m. batches_in (x.placed m); table = x.table
 
 -- The image is legible as media of these numbers, and reads so.
 pub record Reads (image : Image) (numbers : List ℕ) (reading : Reading) : Type 0 where
-  pub members_are : numbers ≡ members
   pub contents : Contents
+  pub members_are : numbers ≡ members_with contents.further
   pub holds : HoldsContents image contents
   pub is : reading ≡ reading_of contents
 
 -- What a run begins with that is opened on these contents.
 abbrev pub opening_of : Contents → Opening
-opening_of x = opened members (settings_of x.config x.text) (reading_of x)
+opening_of x = opened (members_with x.further) (settings_of x.config x.text) (reading_of x)

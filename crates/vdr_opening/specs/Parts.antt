@@ -18,8 +18,8 @@ use Rattle.vdr_media.specs.Layout.{superblock_bytes}
 use Rattle.vdr_opening.specs.declared.refused.OpenRefused.{OpenRefused}
 use Rattle.vdr_opening.specs.declared.refused.OpenRefused.TheVariants.{NoMemory, Damaged, Fault}
 use Rattle.vdr_opening.specs.declared.text.Configured.{Configured}
-use Rattle.vdr_opening.specs.Media.{members, AreThereBy, IsMedium, IsMediumBy}
-use Rattle.vdr_opening.specs.Answers.{AreRingsOf, ring_at}
+use Rattle.vdr_opening.specs.Media.{AreThereBy, IsMedium, IsMediumBy}
+use Rattle.vdr_opening.specs.Answers.{AreRingsOf, members_on, ring_at}
 
 -- The text of the configuration of the medium before, where there is one.
 abbrev pub text_of : Option Configured → Option (List ℕ)
@@ -55,10 +55,11 @@ module _ {tells tells_images : Type 0} where
 
   -- The ring on each of the media knows these segments.
   abbrev pub AreKnownTo : List RingState → (ℕ → List Placed) → Disk tells tells_images → Type 0
-  AreKnownTo on known disk = All (λ m. rings.Knows (ring_at on m) (known m) disk) members
+  AreKnownTo on known disk = All (λ m. rings.Knows (ring_at on m) (known m) disk) (members_on on)
 
   -- Rings read from their media: each is that of its medium as it was, and reads as it did. Nothing was written.
   pub record KeepsRings (old new : List RingState) (before after : Disk tells tells_images) : Type 0 where
+    pub size : length new ≡ length old
     pub of_media : (c : Configuration) (sizes : List ℕ) → AreRingsOf c sizes old → AreRingsOf c sizes new
     pub reads : (m : ℕ) (placed : List Placed) → rings.Reads (ring_at old m) placed before → rings.Reads (ring_at new m) placed after
     pub knows : (m : ℕ) (known : List Placed) → rings.Knows (ring_at old m) known before → rings.Knows (ring_at new m) known after
@@ -88,6 +89,6 @@ pub record LacksPlacesAt (slots : ℕ) (known : List Placed) (bytes : List ℕ) 
   pub at : offset ≡ place_of slot
 
 -- The count of no medium falls. A fault comes only where that of one of the media rose.
-pub record HasPartCause {T : Type 0} (before now : List ℕ) (result : Result T PartRefused) : Type 0 where
+pub record HasPartCause {T : Type 0} (members : List ℕ) (before now : List ℕ) (result : Result T PartRefused) : Type 0 where
   pub later : NoneFalls before now
   pub rose : IsErrOf result parts.Fault → Any (λ m. Rose (get_or before m 0) (get_or now m 0)) members

@@ -14,7 +14,7 @@ use Rattle.vdr_directory.specs.Telling.{HoldAllBy}
 use Rattle.vdr_directory.specs.Opening.{Refuses}
 use Rattle.vdr_incident.specs.Tables.{HoldsTable, place_of}
 use Rattle.vdr_incident.specs.Tables as incidents
-use Rattle.vdr_opening.specs.Media.{members, HasFront, IsMediumBy, Contents, HoldsParts, reading_of}
+use Rattle.vdr_opening.specs.Media.{members_in, members_with, HasFront, IsMediumBy, Contents, HoldsParts, reading_of}
 
 -- The text is that of the medium before, where there is one.
 abbrev pub IsSameText : Option (List ℕ) → List ℕ → Type 0
@@ -60,7 +60,7 @@ RefusesFrom before (k ∷ ks) image m offset =
 
 -- What opening reads of each medium is legal, with one configuration.
 pub record AreLegal (image : Image) (c : Configuration) (text : List ℕ) (known : ℕ → List Placed) : Type 0 where
-  pub each : All (λ m. IsMediumBy m c text (known m) (content image m)) members
+  pub each : All (λ m. IsMediumBy m c text (known m) (content image m)) (members_in image)
 
 -- The media are, and the first incident slot that is not is at this offset.
 pub record RefusesIncidents (image : Image) (m offset : ℕ) : Type 0 where
@@ -90,11 +90,11 @@ pub record RefusesPlaces (image : Image) (m offset : ℕ) : Type 0 where
 pub record RefusesEnds (image : Image) (m offset : ℕ) : Type 0 where
   pub parts : Contents
   pub holds : HoldsParts image parts
-  pub off : EndsOff members (reading_of parts) m
+  pub off : EndsOff (members_with parts.further) (reading_of parts) m
   pub at : offset ≡ 0
 
 -- The first part that is not legal is at this offset of medium m.
 abbrev pub IsRefused : (image : Image) (m offset : ℕ) → Type 0
 IsRefused image m offset =
-    RefusesFrom None members image m offset
+    RefusesFrom None (members_in image) image m offset
     ⊎ (RefusesIncidents image m offset ⊎ (RefusesPlaces image m offset ⊎ RefusesEnds image m offset))

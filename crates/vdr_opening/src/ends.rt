@@ -12,11 +12,10 @@ ghost use Rattle.vdr_directory.specs.Telling.{TellsBy};
 ghost use Rattle.vdr_ring.specs.Rings.{HoldsNewest, Knows};
 ghost use Rattle.vdr_ring.specs.Lasts.{batch_or_none};
 ghost use Rattle.vdr_directory.specs.Sequence.{Placed, all_records, batches_in};
-ghost use Rattle.vdr_opening.specs.Media.{members, Contents, reading_of};
-ghost use Rattle.vdr_opening.specs.Answers.{AreRingsOf, IsMissing, ring_at};
+ghost use Rattle.vdr_opening.specs.Media.{Contents, reading_of};
+ghost use Rattle.vdr_opening.specs.Answers.{AreRingsOf, IsMissing, members_on, ring_at};
 ghost use Rattle.vdr_opening.specs.Parts.{AreKnownTo, HasPartCause, KeepsRings};
 
-use crate::MEMBERS;
 use crate::same::same_records;
 use std::alloc::Global;
 use vdr_entry::Record;
@@ -44,7 +43,7 @@ fn read_end<M: Media>(
     rings: &mut [Ring],
     m: u8,
 ) -> Result<Vec<Record>, PartRefused>
-    requires few { m < 2 }
+    requires there { m < length rings.old }
     requires rings { (c : Configuration) × AreRingsOf c (M.disk media.old).sizes rings.old }
     ensures batch { IfOk result (λ batch. M.tells → (known : List Placed) → Knows (ring_at rings.old m) known (M.disk media.old) → batch_or_none batch.items ≡ last (batches_in known)) }
     ensures fits { IfOk result (λ batch. batch.items ≢ [] → 64 + batch_size batch.items + 1 ≤ (ring_at rings.old m).segment) }
@@ -52,7 +51,7 @@ fn read_end<M: Media>(
     ensures kept { KeepsRings rings.old rings.new (M.disk media.old) (M.disk media.new) }
     ensures others { (k : ℕ) → k ≢ m → ring_at rings.new k ≡ ring_at rings.old k }
     ensures counts { HoldsNewest (ring_at rings.old m) → M.bytes_read media.new ≡ M.bytes_read media.old }
-    ensures cause { HasPartCause (M.faults media.old) (M.faults media.new) result }
+    ensures cause { HasPartCause (members_on rings.old) (M.faults media.old) (M.faults media.new) result }
 {
     let ring = &mut rings[m as usize];
     ring.read_last_batch(alloc, media)
@@ -75,20 +74,22 @@ pub(crate) fn missing_batch<M: Media>(
     media: &mut M,
     rings: &mut [Ring],
 ) -> Result<Missing, PartRefused>
-    requires { (c : Configuration) × AreRingsOf c (M.disk media.old).sizes rings.old }
+    requires rings { (c : Configuration) × AreRingsOf c (M.disk media.old).sizes rings.old }
+    requires few { length rings.old ≤ 255 }
     ensures missing { IfOk result (λ missing. M.tells → (x : Contents) → AreKnownTo rings.old x.placed (M.disk media.old)
-        → EndsMeet members (reading_of x) × IsMissing missing.batch.items missing.lacking (reading_of x)) }
+        → EndsMeet (members_on rings.old) (reading_of x) × IsMissing (members_on rings.old) missing.batch.items missing.lacking (reading_of x)) }
     ensures fits { IfOk result (λ missing. missing.batch.items ≢ [] → 64 + batch_size missing.batch.items + 1 ≤ (ring_at rings.old 0).segment) }
-    ensures behind { IfOk result (λ missing. missing.batch.items ≢ [] → (0 < missing.lacking) × (missing.lacking < length members)) }
+    ensures behind { IfOk result (λ missing. missing.batch.items ≢ [] → (0 < missing.lacking) × (missing.lacking < length rings.old)) }
     ensures damaged { (m offset : ℕ) → result ≡ Err (Damaged m offset) → M.tells → (x : Contents) → AreKnownTo rings.old x.placed (M.disk media.old)
-        → (offset ≡ 0) × EndsOff members (reading_of x) m }
+        → (offset ≡ 0) × EndsOff (members_on rings.old) (reading_of x) m }
     ensures kept { KeepsRings rings.old rings.new (M.disk media.old) (M.disk media.new) }
-    ensures counts { All (λ m. HoldsNewest (ring_at rings.old m)) members → M.bytes_read media.new ≡ M.bytes_read media.old }
-    ensures cause { HasPartCause (M.faults media.old) (M.faults media.new) result }
+    ensures counts { All (λ m. HoldsNewest (ring_at rings.old m)) (members_on rings.old) → M.bytes_read media.new ≡ M.bytes_read media.old }
+    ensures cause { HasPartCause (members_on rings.old) (M.faults media.old) (M.faults media.new) result }
 {
+    let count = rings.len() as u8;
     let batch = read_end(alloc, media, rings, 0)?;
     let mut lacking = 1;
-    for m in 1..MEMBERS {
+    for m in 1..count {
         let other = read_end(alloc, media, rings, m)?;
         if lacking == m && same_records(&batch, &other) {
             lacking += 1;
@@ -99,7 +100,7 @@ pub(crate) fn missing_batch<M: Media>(
             });
         }
     }
-    if lacking == MEMBERS {
+    if lacking == count {
         return Ok(Missing {
             batch: Vec::new(alloc),
             lacking,

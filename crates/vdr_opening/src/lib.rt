@@ -18,8 +18,8 @@ mod superblock;
 mod text;
 
 pub use law::{law_of_contents, law_of_empty_media, law_of_parts, law_of_refusals};
-pub use medium::MEMBERS;
 pub use opened::Opened;
 pub use reading::read_media;
 pub use refused::OpenRefused;
 pub use text::read_config_of;
+pub use vdr_media::MEMBERS;

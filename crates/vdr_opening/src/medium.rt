@@ -1,5 +1,5 @@
 // The media, but for the incident slots: the superblock of each, its configuration and its segments.
-ghost use Rattle.std.specs.Prelude.{◌≡◌, ◌<◌, ◌≤◌, ℕ, List, length, Ok, Err, None, IfOk, IfSome, All};
+ghost use Rattle.std.specs.Prelude.{◌≡◌, ◌-◌, ◌<◌, ◌≤◌, ℕ, List, length, Ok, Err, None, IfOk, IfSome, All};
 ghost use Rattle.vdr_outside.specs.Disk.{Durable, Unchanged, content};
 ghost use Rattle.vdr_outside.specs.declared.fault.PartRefused.TheVariants.{Damaged};
 ghost use Rattle.vdr_config.specs.Grammar.{configuration};
@@ -8,7 +8,7 @@ ghost use Rattle.vdr_directory.specs.Opening.{HasFaultCause};
 ghost use Rattle.vdr_directory.specs.Sequence.{Placed};
 ghost use Rattle.vdr_ring.specs.Rings.{HoldsNewest};
 ghost use Rattle.vdr_ring.specs.Visits.{HasJudged};
-ghost use Rattle.vdr_opening.specs.Media.{members};
+ghost use Rattle.vdr_opening.specs.Media.{members_in, members_with, further_in};
 ghost use Rattle.vdr_opening.specs.Costs.{ReadsParts, opening_bytes};
 ghost use Rattle.vdr_opening.specs.Refusals.{RefusesFrom, RefusesMedium};
 ghost use Rattle.vdr_opening.specs.Answers.{AreJudgedOn, AreRingsOf, ring_at};
@@ -20,9 +20,6 @@ use crate::text::{Configured, read_configuration};
 use std::alloc::Global;
 use vdr_outside::{Media, PartRefused};
 use vdr_ring::Ring;
-
-/// The media of a recording have the numbers below this one.
-pub const MEMBERS: u8 = 2;
 
 /// What one of them holds.
 #[derive(Drop)]
@@ -73,24 +70,32 @@ fn open_medium<M: Media>(
 
 /// Reads the media in order of number, of a segment whose header has a summary that alone. The configuration is that of
 /// them all. `Damaged` names the first part that is read and not legal.
-pub(crate) fn open_media<M: Media>(alloc: Global, media: &mut M) -> Result<AllMedia, PartRefused>
-    requires { 2 ≤ length (M.disk media.old).sizes }
-    ensures reads { IfOk result (λ all. M.tells → All (λ m. Durable m (M.disk media.old)) members
-        → All (λ m. ReadsLegal m all.configured.config all.configured.text.items (ring_at all.rings.items m) (M.disk media.new)) members) }
+pub(crate) fn open_media<M: Media>(
+    alloc: Global,
+    media: &mut M,
+    count: u8,
+) -> Result<AllMedia, PartRefused>
+    requires two { 2 ≤ count }
+    requires few { count ≤ 2 }
+    requires there { count ≤ length (M.disk media.old).sizes }
+    requires version { M.tells → count - 2 ≡ further_in (M.disk media.old).reads }
+    ensures reads { IfOk result (λ all. M.tells → All (λ m. Durable m (M.disk media.old)) (members_in (M.disk media.old).reads)
+        → All (λ m. ReadsLegal m all.configured.config all.configured.text.items (ring_at all.rings.items m) (M.disk media.new)) (members_with (count - 2))) }
     ensures parts { IfOk result (λ all. M.tells → (known : ℕ → List Placed)
-        × All (λ m. KnowsMedium m all.configured.config all.configured.text.items (known m) (ring_at all.rings.items m) (M.disk media.new)) members
-        × ReadsParts 16408 all.configured.config.segment known (M.disk media.old).sizes (M.bytes_read media.old) (M.bytes_read media.new)) }
-    ensures held { IfOk result (λ all. M.tells → All (λ m. HoldsNewest (ring_at all.rings.items m)) members) }
+        × All (λ m. KnowsMedium m all.configured.config all.configured.text.items (known m) (ring_at all.rings.items m) (M.disk media.new)) (members_with (count - 2))
+        × ReadsParts (count - 2) 16408 all.configured.config.segment known (M.disk media.old).sizes (M.bytes_read media.old) (M.bytes_read media.new)) }
+    ensures held { IfOk result (λ all. M.tells → All (λ m. HoldsNewest (ring_at all.rings.items m)) (members_with (count - 2))) }
     ensures judged { IfOk result (λ all. AreJudgedOn all.rings.items (M.disk media.new)) }
+    ensures count { IfOk result (λ all. length all.rings.items ≡ count) }
     ensures rings { IfOk result (λ all. AreRingsOf all.configured.config (M.disk media.old).sizes all.rings.items) }
-    ensures damaged { (m offset : ℕ) → result ≡ Err (Damaged m offset) → M.tells → All (λ k. Durable k (M.disk media.old)) members
-        → RefusesFrom None members (M.disk media.old).reads m offset }
+    ensures damaged { (m offset : ℕ) → result ≡ Err (Damaged m offset) → M.tells → All (λ k. Durable k (M.disk media.old)) (members_in (M.disk media.old).reads)
+        → RefusesFrom None (members_in (M.disk media.old).reads) (M.disk media.old).reads m offset }
     ensures unchanged { Unchanged (M.disk media.old) (M.disk media.new) }
-    ensures cause { HasPartCause (M.faults media.old) (M.faults media.new) result }
+    ensures cause { HasPartCause (members_with (count - 2)) (M.faults media.old) (M.faults media.new) result }
 {
     let mut rings = Vec::new(alloc);
     let mut before = None;
-    for m in 0..MEMBERS {
+    for m in 0..count {
         let Medium { configured, ring } = open_medium(alloc, media, m, before)?;
         let Ok(_) = rings.push(ring) else {
             return Err(PartRefused::NoMemory);

@@ -3,7 +3,6 @@ use Rattle.std.proofs.lemmas.Result.{err_from_is_err_and}
 use Rattle.vdr_terms.proofs.Results.{same_err}
 use Rattle.vdr_outside.specs.Disk.{content}
 use Rattle.vdr_config.specs.Grammar.{configuration}
-use Rattle.vdr_media.specs.Medium.{HoldsText}
 use Rattle.vdr_media.proofs.Rooms.{text_fits}
 use Rattle.vdr_opening.proofs.ContentsHeld.{one_text}
 use Rattle.vdr_opening.proofs.text.read_config_of.Goals as goal
