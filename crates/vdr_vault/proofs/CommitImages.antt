@@ -1,5 +1,5 @@
 -- What each image shows while a batch goes to one medium after the other.
-use Rattle.std.proofs.Common.{◌≡◌, ◌⊎◌, inl, inr, ◌<◌, ℕ, List, [], ◌∷◌, length, if◌then◌else◌, ◌==◌, All, Option, sym, ◌∙◌, subst, true, refl, ◌≤◌, zero, suc, Contains, ◌++◌, Some, ap, arith}
+use Rattle.std.proofs.Common.{◌≡◌, ◌⊎◌, inl, inr, ◌<◌, ℕ, List, [], ◌∷◌, length, All, Option, sym, ◌∙◌, subst, true, refl, ◌≤◌, Contains, ◌++◌, Some, ap, arith, take, drop, ◌+◌}
 use Rattle.vdr_terms.specs.Needs.{Sizes}
 use Rattle.vdr_terms.specs.Order.{RunOn}
 use Rattle.vdr_terms.specs.Records.{Record, last}
@@ -7,7 +7,7 @@ use Rattle.vdr_core.specs.Histories.{Event, Opening, next_place, Incident, incid
 use Rattle.vdr_durability.specs.Regular.{FollowOn}
 use Rattle.vdr_durability.specs.Retention.{Pin, Retains, at_places, within}
 use Rattle.vdr_durability.specs.Readings.{next_after, ends_before}
-use Rattle.vdr_durability.specs.Shown.{given_with, pins_of, pins_on}
+use Rattle.vdr_durability.specs.Shown.{given_with, pins_on}
 use Rattle.vdr_outside.specs.Disk.{Disk, Image, content}
 use Rattle.vdr_outside.proofs.Moments.{size_read}
 use Rattle.vdr_config.specs.Configuration.{Configuration}
@@ -18,19 +18,19 @@ use Rattle.vdr_directory.specs.Holds.{HoldsPlaced}
 use Rattle.vdr_ring.specs.Rings.{RingState}
 use Rattle.vdr_ring.specs.Whole.{KeepsAll, is_filled}
 use Rattle.vdr_ring.proofs.KeptPlaces.{begins_whole, kept_with}
-use Rattle.vdr_opening.specs.Media.{members, IsMedium, AreThere, Contents, HoldsContents, reading_of, slots_on}
+use Rattle.vdr_opening.specs.Media.{further_in, members_with, IsMedium, AreThere, Contents, HoldsContents, reading_of, slots_on}
 use Rattle.vdr_vault.specs.Vaults.{HoldsHistory, ShowsHistory}
 use Rattle.vdr_ring.specs.Taking.{Lacks, Has}
 use Rattle.vdr_vault.specs.Passes.{Passes}
 use Rattle.vdr_ring.proofs.Allowed.{IsBefore, IsReady, IsAfter, done_after}
 use Rattle.vdr_vault.proofs.ShownImages.{front_stays, table_stays, placed_there, RetainsGiven, shown_level, shown_passed}
-use Rattle.std.proofs.lemmas.List.Elements.{All-nil, Contains-append_left}
+use Rattle.std.proofs.lemmas.List.Elements.{All-contains, Contains-append_left}
+use Rattle.std.proofs.lemmas.List.{take-append-drop}
 use Rattle.vdr_core.specs.Histories.Act.{Commit}
 use Rattle.vdr_core.specs.Taken.{Captured}
 use Rattle.vdr_durability.proofs.Lists.{contains_filter, filter_test, filter_was}
-use Rattle.vdr_media.proofs.Two.{all_two, all_one, of_each}
 use Rattle.vdr_incident.specs.Tables.{HoldsTable}
-use Rattle.vdr_vault.proofs.Members.{passed_on}
+use Rattle.vdr_vault.proofs.Members.{chosen, chosen_is}
 use Rattle.vdr_ring.proofs.Pinned.{HoldPins}
 use Rattle.vdr_ring.proofs.Continuing.{waits}
 use Rattle.vdr_vault.proofs.CommitReady.{are_there}
@@ -41,21 +41,23 @@ use Rattle.vdr_durability.specs.Soundness.{IsUnbroken}
 use Rattle.vdr_ring.proofs.Medium.{in_order_records}
 use Rattle.vdr_config.specs.Sizes.{sizes_of, window_of}
 use Rattle.vdr_durability.specs.Victims.{ArePinsOf}
+use Rattle.vdr_media.proofs.Members.{front_numbers, front_of, numbers, of_all, of_each, rest_of}
+use Rattle.vdr_durability.specs.Regular.{IsPaced}
+use Rattle.vdr_terms.specs.Needs.{cost}
+use Rattle.vdr_directory.specs.Sequence.{segments_in}
+use Rattle.vdr_durability.specs.Readings.{IsPassedOn}
+use Rattle.std.proofs.lemmas.Bool.{cases_eq, cases_lt}
+use Rattle.vdr_durability.proofs.Restored.{follow_is_in_order}
 use Rattle.vdr_durability.proofs.Following.{follow_in_order}
 use Rattle.vdr_ring.proofs.Lacking.{HoldsBefore, before_of}
 
--- The segments of two media.
-abbrev pub two : List Placed → List Placed → ℕ → List Placed
-two capsule long_term m = if m == 0 then capsule else long_term
-
 -- The numbers that a batch from the next place on meets.
-pub record MeetsEnds (opening : Opening) (events : List Event) (placed : ℕ → List Placed) (records : List Record) : Type 0 where
+pub record MeetsEnds (n : ℕ) (opening : Opening) (events : List Event) (placed : ℕ → List Placed) (records : List Record) : Type 0 where
   pub run : RunOn (next_place opening events) records
   pub some : 0 < length records
-  pub level : last (batches_in (placed 1)) ≡ last (batches_in (placed 0))
-  pub next_capsule : next_after (last (all_records (placed 0))) ≡ next_place opening events
-  pub next_long : next_after (last (all_records (placed 1))) ≡ next_place opening events
-  pub follow : All (λ m. FollowOn (last (given_with opening events m)) records) members
+  pub level : (k : ℕ) → k < 2 + n → last (batches_in (placed k)) ≡ last (batches_in (placed 0))
+  pub next : (k : ℕ) → k < 2 + n → next_after (last (all_records (placed k))) ≡ next_place opening events
+  pub follow : All (λ m. FollowOn (last (given_with opening events m)) records) (members_with n)
 
 module _ {tells tells_images : Type 0} where
   module _ (opening : Opening) (events : List Event) (c : Configuration) (m : ℕ) (ring : RingState) (placed : List Placed) (disk : Disk tells tells_images) (h : HoldsHistory opening events c m ring placed disk) where
@@ -72,14 +74,8 @@ module _ {tells tells_images : Type 0} where
 -- What an image shows while a batch goes to one medium after the other.
 
 -- What the media hold with these segments.
-abbrev contents : Opening → Configuration → (count : ℕ → ℕ) → List (Option Incident) → List Placed → List Placed → Contents
-contents opening c count table capsule long_term = record {
-  config = c;
-  text = opening.settings.text;
-  placed = two capsule long_term;
-  table = table;
-  filled = λ m. is_filled (count m) (two capsule long_term m);
-}
+abbrev contents : (n : ℕ) → Opening → Configuration → (count : ℕ → ℕ) → List (Option Incident) → (ℕ → List Placed) → Contents
+contents n opening c count table now = record { further = n; config = c; text = opening.settings.text; placed = now; table = table; filled = λ m. is_filled (count m) (now m) }
 
 -- Pins of more records are those of fewer.
 fewer_pins : (sizes : Sizes) (m : ℕ) (held more : List Record) (pins : List Pin) → ArePinsOf sizes m (held ++ more) pins → ArePinsOf sizes m held pins
@@ -92,13 +88,13 @@ fewer_pins sizes m held more pins h = record { few = h.few; short = λ pin there
 abbrev pub ShowsOneOf : Opening → List Event → Event → Image → Type 0
 ShowsOneOf opening events e i = ShowsHistory opening events i ⊎ ShowsHistory opening (events ++ e ∷ []) i
 
-module _ (opening : Opening) (events : List Event) (c : Configuration) (table : List (Option Incident)) (is_table : table ≡ incidents opening events) (few : c.incident_slots ≤ 32)
-    (e : Event) (records : List Record) (taken : List Captured) (is : e.act ≡ Commit records taken) (placed : ℕ → List Placed) (meets : MeetsEnds opening events placed records)
+module _ (n : ℕ) (opening : Opening) (events : List Event) (c : Configuration) (table : List (Option Incident)) (is_table : table ≡ incidents opening events) (few : c.incident_slots ≤ 32)
+    (e : Event) (records : List Record) (taken : List Captured) (is : e.act ≡ Commit records taken) (placed : ℕ → List Placed) (meets : MeetsEnds n opening events placed records)
     (windows : (m : ℕ) → opening.settings.seconds m ≡ window_of c m) (roomy : (m : ℕ) → 0 < opening.settings.seconds m) where
   -- One medium after the other is given it.
-  module _ {tells tells_images : Type 0} (ring : ℕ → RingState) (old : Disk tells tells_images) (history : (k : ℕ) → k < 2 → HoldsHistory opening events c k (ring k) (placed k) old)
-      (window : (k : ℕ) → k < 2 → (ring k).seconds ≡ opening.settings.seconds k)
-      (ready : (k : ℕ) → k < 2 → IsReady (sizes_of c) k (ring k).segment (ring k).slots (ring k).seconds (pins_on k (incidents opening events)) (given_with opening events k) records (placed k))
+  module _ {tells tells_images : Type 0} (ring : ℕ → RingState) (old : Disk tells tells_images) (history : (k : ℕ) → k < 2 + n → HoldsHistory opening events c k (ring k) (placed k) old)
+      (window : (k : ℕ) → k < 2 + n → (ring k).seconds ≡ opening.settings.seconds k)
+      (ready : (k : ℕ) → k < 2 + n → IsReady (sizes_of c) k (ring k).segment (ring k).slots (ring k).seconds (pins_on k (incidents opening events)) (given_with opening events k) records (placed k))
       (first : ℕ) (told : tells) (held : HoldsTable c.incident_slots table (content old.reads 1)) where
     abbrev count : ℕ → ℕ
     count k = (ring k).slots
@@ -112,26 +108,9 @@ module _ (opening : Opening) (events : List Event) (c : Configuration) (table : 
     abbrev Before : ℕ → List ℕ → Type 0
     Before k = HoldsBefore (sizes_of c) k (ring k) (pins_on k (incidents opening events)) (given_with opening events k) records (placed k)
 
-    -- What an image holds with these segments.
-    holds_contents : (i : Image) (first second : List Placed) → HoldsPlaced (ring 0).segment (ring 0).slots first (content i 0) → AreInOrder first → SameFront (content old.reads 0) (content i 0)
-        → HoldsPlaced (ring 1).segment (ring 1).slots second (content i 1) → AreInOrder second → SameFront (content old.reads 1) (content i 1) → HoldPins (pins_of (incidents opening events)) second → HoldsContents i (contents opening c count table first second)
-    holds_contents i first second held_first order front held_second order' front' pinned = record {
-      media = all_two (λ m. IsMedium m c opening.settings.text (two first second m) (content i m))
-          (legible_with opening events c 0 (ring 0) (placed 0) old (history 0 (omega arith)) told first (content i 0) front held_first order)
-          (legible_with opening events c 1 (ring 1) (placed 1) old (history 1 (omega arith)) told second (content i 1) front' held_second order');
-      table = table_stays (content old.reads 1) (content i 1) front' c.incident_slots table few held;
-      there = subst (λ (t : List (Option Incident)). AreThere t second) (sym is_table) (are_there (incidents opening events) second pinned);
-      filled = all_two (λ m. is_filled (count m) (two first second m) ≡ is_filled (slots_on c i m) (two first second m))
-          (filled_there c old.sizes 0 (ring 0) first (content i 0) (history 0 (omega arith)).is_its (front.size ∙ size_read old 0 told))
-          (filled_there c old.sizes 1 (ring 1) second (content i 1) (history 1 (omega arith)).is_its (front'.size ∙ size_read old 1 told));
-    }
-
-    are_filled : (first second : List Placed) → AreFilled (contents opening c count table first second) count
-    are_filled first second = all_two (λ m. is_filled (count m) (two first second m) ≡ is_filled (count m) (two first second m)) refl refl
-
-    module _ (k : ℕ) (lt : k < 2) where
+    module _ (k : ℕ) (lt : k < 2 + n) where
       follow : FollowOn (last (given_with opening events k)) records
-      follow = of_each (λ m. FollowOn (last (given_with opening events m)) records) meets.follow k lt
+      follow = of_each (λ m. FollowOn (last (given_with opening events m)) records) n meets.follow k lt
 
       before : (bytes : List ℕ) → LacksIt k bytes → Before k bytes
       before bytes l = before_of (sizes_of c) k (ring k) (pins_on k (incidents opening events)) (given_with opening events k) records (placed k) first (ready k lt) (content old.reads k) bytes l
@@ -173,8 +152,7 @@ module _ (opening : Opening) (events : List Event) (c : Configuration) (table : 
       }
 
       next_at : next_after (last (all_records (placed k))) ≡ next_place opening events
-      next_at = of_each (λ k. next_after (last (all_records (placed k))) ≡ next_place opening events)
-          (all_two (λ k. next_after (last (all_records (placed k))) ≡ next_place opening events) meets.next_capsule meets.next_long) k lt
+      next_at = meets.next k lt
 
       having_sound : (bytes : List ℕ) (h : HasIt k bytes) → IsSoundAlone c k (count k) h.now table (all_records h.now)
       having_sound bytes h = record {
@@ -192,65 +170,127 @@ module _ (opening : Opening) (events : List Event) (c : Configuration) (table : 
       waits_for bytes b next = waits b.now records (next_place opening events)
           (ap next_after (b.before.retains.window.newest ∙ sym (history k lt).retains.window.newest) ∙ next) meets.run meets.some b.stays.paced.order
 
-    -- None has it.
-    none_has : (i : Image) → LacksIt 0 (content i 0) → LacksIt 1 (content i 1) → ShowsHistory opening events i
-    none_has i l l' =
-        let x = before 0 (omega arith) (content i 0) l in
-        let y = before 1 (omega arith) (content i 1) l' in
-        let level = all_two (λ m. last ((reading_of (contents opening c count table x.now y.now)).batches m) ≡ last (batches_in x.now)) refl (y.before.ends ∙ meets.level ∙ sym x.before.ends) in
-        shown_level opening events (contents opening c count table x.now y.now) i
-        (holds_contents i x.now y.now x.holds x.order l.front y.holds y.order l'.front y.before.pinned)
-        (sound_level (contents opening c count table x.now y.now) count (are_filled x.now y.now) level (all_two (λ m. AreInOrder (two x.now y.now m)) x.order y.order)
-        (before_sound 0 (omega arith) (content i 0) x) (before_sound 1 (omega arith) (content i 1) y))
-        refl is_table level
-        (all_two (RetainsGiven opening events (given_with opening events) (two x.now y.now)) (before_retains 0 (omega arith) x.now x.before) (before_retains 1 (omega arith) y.now y.before))
+    -- What medium k has where it has the batch, and where it waits for it.
+    record Given (k : ℕ) (now : List Placed) : Type 0 where
+      pub ends : last (batches_in now) ≡ Some records
+      pub retains : RetainsGiven opening events (λ m. given_with opening events m ++ records) (λ _. now) k
+      pub alone : IsSoundAlone c k (count k) now table (all_records now)
 
-    -- The first has it.
-    first_has : (i : Image) → HasIt 0 (content i 0) → LacksIt 1 (content i 1) → ShowsHistory opening (events ++ e ∷ []) i
-    first_has i h l =
-        let done = after 0 (omega arith) (content i 0) h in
-        let y = before 1 (omega arith) (content i 1) l in
-        let x = contents opening c count table h.now y.now in
-        let passed = passed_on records (reading_of x) done.ends (waits_for 1 (omega arith) (content i 1) y meets.next_long) in
-        let retained = before_retains 1 (omega arith) y.now y.before in
-        shown_passed opening events x i
-        (holds_contents i h.now y.now h.holds (h.order refl) h.front y.holds y.order l.front y.before.pinned)
-        (sound_passed x count records (are_filled h.now y.now) passed y.stays.paced
-        (having_sound 0 (omega arith) (content i 0) h)
-        (lacking_sound 1 (omega arith) (content i 1) y))
-        refl is_table e records taken (0 ∷ []) (1 ∷ []) is passed meets.follow
-        (all_one (RetainsGiven opening events (λ m. given_with opening events m ++ records) (two h.now y.now)) 0 (after_retains 0 (omega arith) (content i 0) h))
-        (all_one (RetainsGiven opening events (given_with opening events) (two h.now y.now)) 1 retained)
+    record Waiting (k : ℕ) (now : List Placed) : Type 0 where
+      pub ends : last (batches_in now) ≡ last (batches_in (placed k))
+      pub waits : ends_before (Some records) (batches_in now) ≡ true
+      pub retains : RetainsGiven opening events (given_with opening events) (λ _. now) k
+      pub alone : IsSoundAlone c k (count k) now table (all_records now)
+      pub with_it : IsSoundAlone c k (count k) now table (all_records now ++ records)
+      pub paced : IsPaced (cost (sizes_of c)) c.batch (segments_in now) records
 
-    -- All have it.
-    all_have : (i : Image) → HasIt 0 (content i 0) → HasIt 1 (content i 1) → ShowsHistory opening (events ++ e ∷ []) i
-    all_have i h h' =
-        let done = after 0 (omega arith) (content i 0) h in
-        let done' = after 1 (omega arith) (content i 1) h' in
-        let x = contents opening c count table h.now h'.now in
-        shown_passed opening events x i
-        (holds_contents i h.now h'.now h.holds (h.order refl) h.front h'.holds (h'.order refl) h'.front done'.pinned)
-        (sound_level x count (are_filled h.now h'.now) (all_two (λ m. last ((reading_of x).batches m) ≡ last (batches_in h.now)) refl (done'.ends ∙ sym done.ends))
-        (all_two (λ m. AreInOrder (x.placed m)) (h.order refl) (h'.order refl))
-        (having_sound 0 (omega arith) (content i 0) h)
-        (having_sound 1 (omega arith) (content i 1) h'))
-        refl is_table e records taken members [] is
-        (record {
-          split = refl;
-          some = omega arith;
-          given_end = all_two (λ m. last ((reading_of x).batches m) ≡ Some records) done.ends done'.ends;
-          waiting_end = All-nil (λ m. ends_before (Some records) ((reading_of x).batches m) ≡ true);
-        })
-        meets.follow
-        (all_two (RetainsGiven opening events (λ m. given_with opening events m ++ records) (two h.now h'.now))
-        (after_retains 0 (omega arith) (content i 0) h) (after_retains 1 (omega arith) (content i 1) h'))
-        (All-nil (RetainsGiven opening events (given_with opening events) (two h.now h'.now)))
+    record Stage (i : Image) (given k : ℕ) (now : List Placed) : Type 0 where
+      pub legal : IsMedium k c opening.settings.text now (content i k)
+      pub front : SameFront (content old.reads k) (content i k)
+      pub order : AreInOrder now
+      pub pinned : HoldPins (pins_on k (incidents opening events)) now
+      pub has : k < given → Given k now
+      pub lacks : given ≤ k → Waiting k now
+
+    stage_at : (i : Image) (given : ℕ) → ((k : ℕ) → k < given → HasIt k (content i k)) → ((k : ℕ) → given ≤ k → k < 2 + n → LacksIt k (content i k)) → (k : ℕ) → k < 2 + n → (now : List Placed) × Stage i given k now
+    stage_at i given has lack k lt = elim (cases_lt k given) [
+      | inl below ↦
+          let h = has k below in
+          let done = after k lt (content i k) h in (
+            h.now,
+            record {
+              legal = legible_with opening events c k (ring k) (placed k) old (history k lt) told h.now (content i k) h.front h.holds (h.order refl);
+              front = h.front;
+              order = h.order refl;
+              pinned = done.pinned;
+              has = λ _. record { ends = done.ends; retains = after_retains k lt (content i k) h; alone = having_sound k lt (content i k) h };
+              lacks = λ above. absurd (omega (arith, above, below));
+            },
+          )
+      | inr above ↦
+          let l = lack k above lt in
+          let y = before k lt (content i k) l in (
+            y.now,
+            record {
+              legal = legible_with opening events c k (ring k) (placed k) old (history k lt) told y.now (content i k) l.front y.holds y.order;
+              front = l.front;
+              order = y.order;
+              pinned = y.before.pinned;
+              has = λ below. absurd (omega (arith, above, below));
+              lacks = λ _. record {
+                ends = y.before.ends;
+                waits = waits_for k lt (content i k) y (meets.next k lt);
+                retains = before_retains k lt y.now y.before;
+                alone = before_sound k lt (content i k) y;
+                with_it = lacking_sound k lt (content i k) y;
+                paced = y.stays.paced;
+              };
+            },
+          )
+    ]
+
+    -- Media of which so many have it, by the segments of each.
+    module _ (i : Image) (version : n ≡ further_in i) (given : ℕ) (within : given ≤ 2 + n) (now : ℕ → List Placed) (stage : (k : ℕ) → k < 2 + n → Stage i given k (now k)) where
+      abbrev x : Contents
+      x = contents n opening c count table now
+
+      holds : HoldsContents i x
+      holds = record {
+        further = version;
+        media = of_all (λ m. IsMedium m c opening.settings.text (now m) (content i m)) n (λ k lt. (stage k lt).legal);
+        table = table_stays (content old.reads 1) (content i 1) (stage 1 (omega arith)).front c.incident_slots table few held;
+        there = subst (λ (t : List (Option Incident)). AreThere t (now 1)) (sym is_table) (are_there (incidents opening events) (now 1) (stage 1 (omega arith)).pinned);
+        filled = of_all (λ m. is_filled (count m) (now m) ≡ is_filled (slots_on c i m) (now m)) n
+            (λ k lt. filled_there c old.sizes k (ring k) (now k) (content i k) (history k lt).is_its ((stage k lt).front.size ∙ size_read old k told));
+      }
+
+      are_filled : AreFilled x count
+      are_filled = of_all (λ m. is_filled (count m) (now m) ≡ is_filled (count m) (now m)) n (λ k lt. refl)
+
+      -- None has it.
+      none_has : given ≡ 0 → ShowsHistory opening events i
+      none_has none =
+          let lacking : (k : ℕ) → k < 2 + n → Waiting k (now k) = λ k lt. (stage k lt).lacks (omega (arith, none)) in
+          let level = of_all (λ m. last (batches_in (now m)) ≡ last (batches_in (now 0))) n (λ k lt. (lacking k lt).ends ∙ meets.level k lt ∙ sym (lacking 0 (omega arith)).ends) in
+          shown_level opening events x i holds
+          (sound_level x count are_filled level (of_all (λ m. AreInOrder (now m)) n (λ k lt. (stage k lt).order)) (λ k lt. (lacking k lt).alone))
+          refl is_table level
+          (of_all (RetainsGiven opening events (given_with opening events) now) n (λ k lt. (lacking k lt).retains))
+
+      -- The first have it.
+      some_have : 1 ≤ given → ShowsHistory opening (events ++ e ∷ []) i
+      some_have some =
+          let ms = members_with n in
+          let is_numbers = numbers n in
+          let size = (front_numbers is_numbers given within).size in
+          let has : (k : ℕ) → k < given → Given k (now k) = λ k lt. (stage k (omega (arith, lt, within))).has lt in
+          let lacking : (k : ℕ) → given ≤ k → k < 2 + n → Waiting k (now k) = λ k above lt. (stage k lt).lacks above in
+          let passed : IsPassedOn ms (take given ms) (drop given ms) records (reading_of x) = record {
+            split = sym (take-append-drop given ms);
+            some = omega (arith, size, some);
+            given_end = front_of is_numbers (λ m. last (batches_in (now m)) ≡ Some records) given within (λ k lt. (has k lt).ends);
+            waiting_end = rest_of is_numbers (λ m. ends_before (Some records) (batches_in (now m)) ≡ true) given (λ k above lt. (lacking k above lt).waits);
+          } in
+          let ordered = follow_is_in_order (last (given_with opening events 0)) records (of_each (λ m. FollowOn (last (given_with opening events m)) records) n meets.follow 0 (omega arith)) in
+          shown_passed opening events x i holds
+          (sound_passed x count (take given ms) (drop given ms) records are_filled passed ordered
+          (rest_of is_numbers (λ m. IsPaced (cost (sizes_of c)) c.batch (segments_in (now m)) records) given (λ k above lt. (lacking k above lt).paced))
+          (λ m there. (has m (All-contains (λ k. k < given) (take given ms) m (front_of is_numbers (λ k. k < given) given within (λ k lt. lt)) there)).alone)
+          (λ m there.
+          let side = All-contains (λ k. (given ≤ k) × (k < 2 + n)) (drop given ms) m (rest_of is_numbers (λ k. (given ≤ k) × (k < 2 + n)) given (λ k above lt. (above, lt))) there in
+          (lacking m side.0 side.1).with_it))
+          refl is_table e records taken (take given ms) (drop given ms) is passed meets.follow
+          (front_of is_numbers (RetainsGiven opening events (λ m. given_with opening events m ++ records) now) given within (λ k lt. (has k lt).retains))
+          (rest_of is_numbers (RetainsGiven opening events (given_with opening events) now) given (λ k above lt. (lacking k above lt).retains))
 
     -- At each moment the events are shown, or these with the commit.
-    pub passing_shows : (i : Image) → Passes LacksIt HasIt 0 2 old.now i → ShowsOneOf opening events e i
-    passing_shows i p = go p.given p.has p.lack
-      where
-        go : (n : ℕ) → ((k : ℕ) → 0 ≤ k → k < n → HasIt k (content i k)) → ((k : ℕ) → n ≤ k → k < 2 → LacksIt k (content i k)) → ShowsOneOf opening events e i
-        go zero has lack = inl (none_has i (lack 0 (omega arith) (omega arith)) (lack 1 (omega arith) (omega arith)))
-        go (suc zero) has lack = inr (first_has i (has 0 (omega arith) (omega arith)) (lack 1 (omega arith) (omega arith)))
-        go (suc (suc n)) has lack = inr (all_have i (has 0 (omega arith) (omega arith)) (has 1 (omega arith) (omega arith)))
+    pub passing_shows : (i : Image) → n ≡ further_in i → (count : ℕ) → count ≡ 2 + n → Passes LacksIt HasIt 0 count old.now i → ShowsOneOf opening events e i
+    passing_shows i version count is_count p =
+        let stages = stage_at i p.given (λ k lt. p.has k (omega arith) lt) (λ k above lt. p.lack k above (omega (arith, lt, is_count))) in
+        let below = p.below in
+        let now = chosen [] (Stage i p.given) (2 + n) stages in
+        let are = chosen_is [] (Stage i p.given) (2 + n) stages in
+        elim (cases_eq p.given 0) [
+          | inl none ↦ inl (none_has i version p.given (omega (arith, below, is_count)) now are none)
+          | inr some ↦ inr (some_have i version p.given (omega (arith, below, is_count)) now are (grind (arith, some)))
+        ]

@@ -8,11 +8,13 @@ pub mod CommitReady
 pub mod OpenContents
 pub mod OpenCosts
 pub mod ReconcileBatch
+pub mod ReconcileImages
 pub mod ReconcileDone
 pub mod OpenMoments
 pub mod CommitImages
 pub mod CommitAll
 pub mod Passed
+pub mod Untouched
 pub mod Brought
 pub mod Alike
 pub mod Playing

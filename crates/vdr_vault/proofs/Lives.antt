@@ -21,17 +21,18 @@ use Rattle.vdr_config.specs.Configuration.{Configuration}
 use Rattle.vdr_config.specs.Grammar.{configuration}
 use Rattle.vdr_config.specs.Sizes.{window_of}
 use Rattle.vdr_config.proofs.Ranges.{ranges_of}
-use Rattle.vdr_media.specs.Formatted.{IsEmptyHistory}
+use Rattle.vdr_media.specs.Formatted.{IsEmptyHistory, members}
 use Rattle.vdr_media.proofs.Two.{all_two}
 use Rattle.vdr_directory.specs.Sequence.{batches_in}
-use Rattle.vdr_opening.specs.Media.{members, Contents, HoldsContents, nothing_on, opening_of, reading_of}
+use Rattle.vdr_opening.specs.Media.{members_with, Contents, HoldsContents, nothing_on, opening_of, reading_of}
 use Rattle.vdr_opening.specs.Settings.{settings_of}
-use Rattle.vdr_opening.proofs.ContentsHeld.{are_legal, one_capsule, one_configured_text, one_incidents, one_long_term}
+use Rattle.vdr_opening.proofs.ContentsHeld.{are_legal, one_configured_text, one_incidents, one_placed_at}
+use Rattle.vdr_opening.proofs.SameEnds.{EndsAlike, same_end, same_ends}
 use Rattle.vdr_opening.proofs.Fronts.{empty_holds, empty_meet, one_config}
 use Rattle.vdr_vault.specs.Openings.{LeavesAll}
 use Rattle.vdr_vault.specs.Regularity.{AreSound, IsRegularMedium}
 use Rattle.vdr_vault.specs.Vaults.{ShowsHistory}
-use Rattle.vdr_vault.proofs.OpenContents.{restored_shown, same_meet}
+use Rattle.vdr_vault.proofs.OpenContents.{restored_shown}
 use Rattle.vdr_vault.proofs.SoundMedia.{sound_as, sound_nothing}
 use Rattle.vdr_vault.specs.Lives.{IsRun, Life, LivesOn, first_opening}
 use Rattle.vdr_vault.specs.Lives.Life.{formatted, ran}
@@ -51,11 +52,11 @@ pub run_front : (x : Contents) (first rest events : List Event) → events ≡ f
 run_front x first rest events split run = record {
   follow = follow_front (opening_of x) [] first rest (subst (MayFollow (opening_of x) []) split run.follow);
   order = All-weaker (λ m. AreInOrder (given_with (opening_of x) events m)) (λ m. AreInOrder (given_with (opening_of x) first m))
-      (λ m h. order_front (opening_of x) m first rest (subst (λ (es : List Event). AreInOrder (all_records (opening_of x) m es)) split h)) members run.order;
+      (λ m h. order_front (opening_of x) m first rest (subst (λ (es : List Event). AreInOrder (all_records (opening_of x) m es)) split h)) (members_with x.further) run.order;
 }
 
-pub run_in_order : (x : Contents) (events : List Event) → MayFollow (opening_of x) [] events → ((m : ℕ) → Contains members m → AreInOrder (all_records (opening_of x) m events)) → IsRun x events
-run_in_order x events follow order = record { follow = follow; order = all_from (λ m. AreInOrder (given_with (opening_of x) events m)) members order }
+pub run_in_order : (x : Contents) (events : List Event) → MayFollow (opening_of x) [] events → ((m : ℕ) → Contains (members_with x.further) m → AreInOrder (all_records (opening_of x) m events)) → IsRun x events
+run_in_order x events follow order = record { follow = follow; order = all_from (λ m. AreInOrder (given_with (opening_of x) events m)) (members_with x.further) order }
 
 -- What media show depends on what both read as alone.
 module _ (opening : Opening) (events : List Event) (r s : Reading) (first : r.batches 0 ≡ s.batches 0) (second : r.batches 1 ≡ s.batches 1) (table : r.table ≡ s.table) (text : r.text ≡ s.text) where
@@ -67,7 +68,7 @@ module _ (opening : Opening) (events : List Event) (r s : Reading) (first : r.ba
     media = record {
       are_members = h.media.are_members;
       text = sym text ∙ h.media.text;
-      ends = same_meet r s first second h.media.ends;
+      ends = same_ends r s members (all_two (EndsAlike r s) (same_end first) (same_end second)) h.media.ends;
       media = all_two (Kept s)
           (subst (Retains (opening.settings.seconds 0) (pins_on 0 (incidents opening events)) (given_with opening events 0)) (λ i. segment_records (with_next (last (first i)) (first i))) (h.media.media 0 0 (omega arith)))
           (subst (Retains (opening.settings.seconds 1) (pins_on 1 (incidents opening events)) (given_with opening events 1)) (λ i. segment_records (with_next (last (first i)) (second i))) (h.media.media 1 1 (omega arith)));
@@ -87,14 +88,14 @@ module _ (c : Configuration) (text : List ℕ) where
     pub reads : configuration text ≡ Ok c
 
   begun : (image : Image) → IsEmptyHistory members c text image → LivesSo [] image
-  begun image empty = from (restored_shown (nothing_on c text) image (empty_holds image c text empty) (empty_meet c text) (sound_nothing c text))
+  begun image empty = from (restored_shown (nothing_on 0 c text) image (empty_holds 0 image c text refl empty) (empty_meet 0 c text) (sound_nothing c text))
     where
       from : ShowsHistory (first_opening c text) [] image → LivesSo [] image
       from (numbers, reading, is_read, shown) = record {
         contents = is_read.reads.contents;
         holds = is_read.reads.holds;
         sound = is_read.sound;
-        shown = subst (Shows members (first_opening c text) []) is_read.reads.is (subst (λ (ms : List ℕ). Shows ms (first_opening c text) [] reading) is_read.reads.members_are shown);
+        shown = subst (Shows members (first_opening c text) []) is_read.reads.is (subst (λ (ms : List ℕ). Shows ms (first_opening c text) [] reading) (is_read.reads.members_are ∙ ap members_with is_read.reads.holds.further) shown);
         follow = tt;
         order = λ m there. tt;
         reads = (empty.each 0 0 (omega arith)).holds.reads;
@@ -102,8 +103,12 @@ module _ (c : Configuration) (text : List ℕ) where
 
   -- The contents of an image, whichever they are.
   module _ (all : List Event) (image : Image) (l : LivesSo all image) (x : Contents) (holds : HoldsContents image x) where
+    -- It is of this version.
+    version : members_with x.further ≡ members
+    version = ap members_with holds.further
+
     shown_on : Shows members (first_opening c text) all (reading_of x)
-    shown_on = shows_as (first_opening c text) all (reading_of l.contents) (reading_of x) (ap batches_in (one_capsule (are_legal l.holds) (are_legal holds))) (ap batches_in (one_long_term (are_legal l.holds) (are_legal holds)))
+    shown_on = shows_as (first_opening c text) all (reading_of l.contents) (reading_of x) (ap batches_in (one_placed_at (are_legal l.holds) (are_legal holds) 0 (omega arith))) (ap batches_in (one_placed_at (are_legal l.holds) (are_legal holds) 1 (omega arith)))
         (one_incidents (are_legal l.holds) (are_legal holds) l.holds.table holds.table) (one_configured_text (are_legal l.holds) (are_legal holds)) l.shown
 
     same_text : x.text ≡ text
@@ -113,13 +118,15 @@ module _ (c : Configuration) (text : List ℕ) where
     same_config = one_config x.text x.config c (holds.media 0 0 (omega arith)).front.configured.reads (ap configuration same_text ∙ l.reads)
 
     sound_on : AreSound x
-    sound_on = (sound_as image l.contents x l.holds holds (l.shown.media.ends, l.sound)).1
+    sound_on = (sound_as image l.contents x l.holds holds (subst (λ (ms : List ℕ). EndsMeet ms (reading_of l.contents)) (ap members_with (sym l.holds.further)) l.shown.media.ends, l.sound)).1
 
     restored_order : (m : ℕ) → Contains members m → AreInOrder (records_on (restored members (reading_of x)) m)
-    restored_order m there = (All-contains (IsRegularMedium x) members m sound_on.regular there).order
+    restored_order m there =
+        subst (λ (ms : List ℕ). AreInOrder (records_on (restored ms (reading_of x)) m)) version
+        (All-contains (IsRegularMedium x) (members_with x.further) m sound_on.regular (subst (λ (ms : List ℕ). Contains ms m) (sym version) there)).order
 
     same_opening : opening_of x ≡ opened members (settings_of c text) (reading_of x)
-    same_opening = λ i. opened members (settings_of (same_config i) (same_text i)) (reading_of x)
+    same_opening = λ i. opened (version i) (settings_of (same_config i) (same_text i)) (reading_of x)
 
     windows_on : (m : ℕ) → Contains members m → window (window_of c m) ((opening_of x).records m) ≡ window (window_of c m) (recorded all)
     windows_on m there = reopened_window members (first_opening c text) all (reading_of x) shown_on m there (l.order m there) (restored_order m there)
@@ -129,7 +136,7 @@ module _ (c : Configuration) (text : List ℕ) where
         (subst (λ (t : List (Option Incident)). Contains t (Some incident)) shown_on.saves.table live) (l.order 1 shown_on.saves.long_term) (restored_order 1 shown_on.saves.long_term)
 
     -- One run more.
-    module _ (after : Image) (events : List Event) (run : IsRun x events) (numbers : List ℕ) (reading : Reading) (y : Contents) (members_are : numbers ≡ members) (is : reading ≡ reading_of y)
+    module _ (after : Image) (events : List Event) (run : IsRun x events) (numbers : List ℕ) (reading : Reading) (y : Contents) (members_are : numbers ≡ members_with y.further) (is : reading ≡ reading_of y)
         (y_holds : HoldsContents after y) (y_sound : AreSound y) (shown : Shows numbers (opening_of x) events reading) where
       two_runs : IsTwoRuns members (first_opening c text) all (reading_of x) events (reading_of y)
       two_runs = record {
@@ -140,9 +147,9 @@ module _ (c : Configuration) (text : List ℕ) where
         shown = shown_on;
         again = subst (λ (o : Opening). MayFollow o [] events) same_opening run.follow;
         shown_again = subst (λ (o : Opening). Shows members o events (reading_of y)) same_opening
-            (subst (Shows members (opening_of x) events) is (subst (λ (ms : List ℕ). Shows ms (opening_of x) events reading) members_are shown));
+            (subst (Shows members (opening_of x) events) is (subst (λ (ms : List ℕ). Shows ms (opening_of x) events reading) (members_are ∙ ap members_with y_holds.further) shown));
         order = l.order;
-        order_again = λ m there. subst (λ (o : Opening). AreInOrder (all_records o m events)) same_opening (All-contains (λ m. AreInOrder (given_with (opening_of x) events m)) members m run.order there);
+        order_again = λ m there. subst (λ (o : Opening). AreInOrder (all_records o m events)) same_opening (All-contains (λ m. AreInOrder (given_with (opening_of x) events m)) (members_with x.further) m run.order (subst (λ (ms : List ℕ). Contains ms m) (sym version) there));
       }
 
       further : LivesSo (all ++ events) after
@@ -170,13 +177,13 @@ module _ (c : Configuration) (text : List ℕ) where
       (shown.first, shown.rest, shown.split, ran all before after x shown.first life holds (run_front x shown.first shown.rest events shown.split run) shown.shown)
 
   pub life_ours : (all : List Event) (image : Image) → Life c text all image → IsOurs image
-  life_ours all image life = let l = lives_so all image life in inr (l.contents, l.holds, l.shown.media.ends, l.sound)
+  life_ours all image life = let l = lives_so all image life in inr (l.contents, l.holds, subst (λ (ms : List ℕ). EndsMeet ms (reading_of l.contents)) (ap members_with (sym l.holds.further)) l.shown.media.ends, l.sound)
 
   pub life_config : (all : List Event) (image : Image) (x : Contents) → Life c text all image → HoldsContents image x → x.config ≡ c
   life_config all image x life holds = same_config all image (lives_so all image life) x holds
 
-  pub life_windows : (all : List Event) (image : Image) (x : Contents) (m : ℕ) → Life c text all image → HoldsContents image x → Contains members m → window (window_of c m) ((opening_of x).records m) ≡ window (window_of c m) (recorded all)
-  life_windows all image x m life holds there = windows_on all image (lives_so all image life) x holds m there
+  pub life_windows : (all : List Event) (image : Image) (x : Contents) (m : ℕ) → Life c text all image → HoldsContents image x → Contains (members_with x.further) m → window (window_of c m) ((opening_of x).records m) ≡ window (window_of c m) (recorded all)
+  life_windows all image x m life holds there = windows_on all image (lives_so all image life) x holds m (subst (λ (ms : List ℕ). Contains ms m) (ap members_with holds.further) there)
 
   pub life_incidents : (all : List Event) (image : Image) (x : Contents) → Life c text all image → HoldsContents image x → x.table ≡ incidents (first_opening c text) all
   life_incidents all image x life holds = (shown_on all image (lives_so all image life) x holds).saves.table
@@ -189,11 +196,11 @@ module _ (c : Configuration) (text : List ℕ) where
   pub record LifeHolds (image : Image) : Type 0 where
     pub contents : Contents
     pub holds : HoldsContents image contents
-    pub meet : EndsMeet members (reading_of contents)
+    pub meet : EndsMeet (members_with contents.further) (reading_of contents)
     pub sound : AreSound contents
 
   pub life_holds : (all : List Event) (image : Image) → Life c text all image → LifeHolds image
-  life_holds all image life = let l = lives_so all image life in record { contents = l.contents; holds = l.holds; meet = l.shown.media.ends; sound = l.sound }
+  life_holds all image life = let l = lives_so all image life in record { contents = l.contents; holds = l.holds; meet = subst (λ (ms : List ℕ). EndsMeet ms (reading_of l.contents)) (ap members_with (sym l.holds.further)) l.shown.media.ends; sound = l.sound }
 
   module _ {tells tells_images : Type 0} (all : List Event) (image : Image) (old new : Disk tells tells_images) (rest : RestAs image old) (life : Life c text all image) where
     rested : (i : Image) → old.now i → Life c text (all ++ []) i

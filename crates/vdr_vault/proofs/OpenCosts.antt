@@ -1,9 +1,9 @@
 -- How many bytes opening reads of the media, where what they hold is known otherwise.
-use Rattle.std.proofs.Common.{◌≡◌, ◌≤◌, ◌+◌, ℕ, List, get_or, subst, arith}
+use Rattle.std.proofs.Common.{◌≡◌, ◌<◌, ◌≤◌, ◌+◌, ℕ, List, get_or, subst, arith}
 use Rattle.vdr_terms.specs.Slots.{slot_count}
 use Rattle.vdr_config.specs.Configuration.{Configuration}
 use Rattle.vdr_directory.specs.Sequence.{Placed}
-use Rattle.vdr_media.proofs.Two.{all_two}
+use Rattle.vdr_media.proofs.Members.{of_all, of_each}
 use Rattle.vdr_opening.specs.Costs.{ReadsToOpen, opening_bytes}
 use Rattle.vdr_opening.specs.Media.{Contents}
 
@@ -15,12 +15,12 @@ within_as : (c d : Configuration) (placed other : List Placed) (m : ℕ) (sizes 
 within_as c d placed other m sizes before now config same within =
     subst (λ (ps : List Placed). WithinOf d ps m sizes before now) same (subst (λ (e : Configuration). WithinOf e placed m sizes before now) config within)
 
-pub reads_as : (x y : Contents) (sizes before now : List ℕ) → x.config ≡ y.config → x.placed 0 ≡ y.placed 0 → x.placed 1 ≡ y.placed 1 → ReadsToOpen x sizes before now → ReadsToOpen y sizes before now
-reads_as x y sizes before now config first second reads = record {
-  each = all_two (λ m. WithinOf y.config (y.placed m) m sizes before now)
-      (within_as x.config y.config (x.placed 0) (y.placed 0) 0 sizes before now config first (reads.each 0 0 (omega arith)))
-      (within_as x.config y.config (x.placed 1) (y.placed 1) 1 sizes before now config second (reads.each 1 0 (omega arith)));
-  others = reads.others;
+pub reads_as : (x y : Contents) (sizes before now : List ℕ) → x.config ≡ y.config → x.further ≡ y.further → ((k : ℕ) → k < 2 + x.further → x.placed k ≡ y.placed k) → ReadsToOpen x sizes before now → ReadsToOpen y sizes before now
+reads_as x y sizes before now config count same reads = record {
+  each = of_all (λ m. WithinOf y.config (y.placed m) m sizes before now) y.further (λ k lt.
+      let there : k < 2 + x.further = omega (arith, lt, count) in
+      within_as x.config y.config (x.placed k) (y.placed k) k sizes before now config (same k there) (of_each (λ m. WithinOf x.config (x.placed m) m sizes before now) x.further reads.each k there));
+  others = λ k above. reads.others k (omega (arith, above, count));
 }
 
 -- what was done before read nothing

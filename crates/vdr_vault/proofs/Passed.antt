@@ -22,10 +22,10 @@ use Rattle.vdr_outside.proofs.Counts.{none_falls_join}
 use Rattle.vdr_segment.specs.Writes.{KeepsFront}
 use Rattle.vdr_config.specs.Configuration.{Configuration}
 use Rattle.vdr_config.specs.Sizes.{sizes_of}
-use Rattle.vdr_opening.specs.Answers.{AreRingsOf, no_ring, ring_at}
+use Rattle.vdr_opening.specs.Answers.{AreRingsOf, further_on, no_ring, ring_at}
 use Rattle.vdr_ring.specs.Openings.{IsRingOf}
-use Rattle.vdr_vault.proofs.Members.{at_one, in_range, ring_is, ring_there}
-use Rattle.vdr_media.proofs.Two.{of_all}
+use Rattle.vdr_vault.proofs.Members.{at_one, ring_is, ring_there}
+use Rattle.vdr_media.proofs.Members.{of_all}
 use Rattle.vdr_ring.proofs.Taken.{GoesByStages, Keeps, appended_to, given_settled, reads_beside, waits_settled}
 
 -- From n on, where it holds of n and of all behind it; and up to n.
@@ -128,15 +128,6 @@ module _ {tells tells_images : Type 0} (LacksIt HasIt : ℕ → List ℕ → Typ
       lack = λ k le lt. settled_other m k _ (LacksIt k) mid new (higher k m (omega (arith, le))) changes others (walk.lack k (omega (arith, le)) lt);
     }
 
--- Where the last medium alone is given it, no other medium changes.
-pub last_changed : (LacksIt HasIt : ℕ → List ℕ → Type 0) (before : Image → Type 0) (i : Image) → Passes LacksIt HasIt 1 2 before i → Changed 1 (λ b. LacksIt 1 b ⊎ HasIt 1 b) before i
-last_changed LacksIt HasIt before i p = record { image = p.image; was = p.was; others = λ k other. p.others k (not_at 1 k other); has = go p.given p.above p.has p.lack }
-  where
-    go : (n : ℕ) → 1 ≤ n → ((k : ℕ) → 1 ≤ k → k < n → HasIt k (content i k)) → ((k : ℕ) → n ≤ k → k < 2 → LacksIt k (content i k)) → LacksIt 1 (content i 1) ⊎ HasIt 1 (content i 1)
-    go zero low has lack = absurd (omega (arith, low))
-    go (suc zero) low has lack = inl (lack 1 (omega arith) (omega arith))
-    go (suc (suc n)) low has lack = inr (has 1 (omega arith) (omega arith))
-
 -- The media of a vault are given a batch, one after the other: the loop's step.
 
 module _ {tells tells_images : Type 0} (ordered : Bool) (sizes : Sizes) (from : ℕ) (rings : List RingState) (pins : List Pin) (placed : ℕ → List Placed) (first : ℕ) (all : ℕ → List Record) (records : List Record)
@@ -152,15 +143,15 @@ module _ {tells tells_images : Type 0} (ordered : Bool) (sizes : Sizes) (from : 
 
   -- The media below m have the batch, and the others wait for it as they were.
   pub record Walks (m : ℕ) (now : List RingState) (mid : Disk tells tells_images) : Type 0 where
-    pub walked : Walked LacksAt HasAt from 2 m old mid
-    pub waiting : (k : ℕ) → m ≤ k → k < 2 → WaitsAt k mid
+    pub walked : Walked LacksAt HasAt from (length rings) m old mid
+    pub waiting : (k : ℕ) → m ≤ k → k < length rings → WaitsAt k mid
     pub untouched : (k : ℕ) → m ≤ k → ring_at now k ≡ ring_at rings k
     pub unread : (k : ℕ) → m ≤ k → content mid.reads k ≡ content old.reads k
     pub given : (k : ℕ) → k < m → from ≤ k → IsGiven (ring_at rings k) (ring_at now k) (pins_at k pins) (placed k) first records mid
 
-  pub starts : {c : Configuration} → AreRingsOf c old.sizes rings → from ≤ 2 → ((k : ℕ) → from ≤ k → k < 2 → WaitsAt k old) → Walks from rings old
+  pub starts : {c : Configuration} → AreRingsOf c old.sizes rings → from ≤ length rings → ((k : ℕ) → from ≤ k → k < length rings → WaitsAt k old) → Walks from rings old
   starts are few waits = record {
-    walked = begins LacksAt HasAt from 2 old few (λ k low lt. waits_settled ordered sizes k (ring_at rings k) (pins_at k pins) (placed k) first (all k) records old (ring_is are k lt).medium (waits k low lt));
+    walked = begins LacksAt HasAt from (length rings) old few (λ k low lt. waits_settled ordered sizes k (ring_at rings k) (pins_at k pins) (placed k) first (all k) records old (ring_is are k lt).medium (waits k low lt));
     waiting = waits;
     untouched = λ k low. refl;
     unread = λ k low. refl;
@@ -170,14 +161,17 @@ module _ {tells tells_images : Type 0} (ordered : Bool) (sizes : Sizes) (from : 
 -- The ring of medium m has its turn.
 module _ {M : Type 0} (media : MediaTells M) (from m : ℕ) (a b : List RingState) (inside : m < length a) (d : RingState) (x y : M) {c : Configuration} (are : AreRingsOf c (media.disk x).sizes a)
     (keeps : KeepsBeside media from a b x y) where
-  high : m < 2
-  high = in_range are inside
+  high : m < length a
+  high = inside
+
+  high_now : m < length b
+  high_now = let size = keeps.size in omega (arith, inside, size)
 
   is : get_or b m d ≡ ring_at b m
-  is = ring_there (keeps.rings c are) m high d
+  is = ring_there (keeps.rings c are) m high_now d
 
   pub its_ring : IsRingOf c (media.disk y).sizes m (get_or b m d)
-  its_ring = subst (IsRingOf c (media.disk y).sizes m) (sym is) (ring_is (keeps.rings c are) m high)
+  its_ring = subst (IsRingOf c (media.disk y).sizes m) (sym is) (ring_is (keeps.rings c are) m high_now)
 
   module _ (low : from ≤ m) (now : RingState) (z : M) (result : Result ⊤ Fault) (stays : StaysOnMedium (get_or b m d) now (media.disk z).sizes) (front : KeepsFront (get_or b m d).medium (media.disk y) (media.disk z))
       (writes : WritesTo media (get_or b m d).medium y z result) where
@@ -194,7 +188,7 @@ module _ {M : Type 0} (media : MediaTells M) (from m : ℕ) (a b : List RingStat
     front_here told = subst (λ (k : ℕ). SameFront (content (media.disk y).reads k) (content (media.disk z).reads k)) its_medium (front.reads told)
 
     set_here : ring_at (set b m now) m ≡ now
-    set_here = let count = (keeps.rings c are).count in get_or-set_same b m now no_ring (omega (arith, count, high))
+    set_here = get_or-set_same b m now no_ring high_now
 
     set_beside : (k : ℕ) → k ≢ m → ring_at (set b m now) k ≡ ring_at b k
     set_beside k other = get_or-set_other b m k now no_ring other
@@ -203,10 +197,11 @@ module _ {M : Type 0} (media : MediaTells M) (from m : ℕ) (a b : List RingStat
     are_after d of_it =
         let before = keeps.rings d of_it in
         record {
-          count = length-set b m now ∙ before.count;
-          each = of_all (λ k. IsRingOf d (media.disk z).sizes k (ring_at (set b m now) k)) (at_one (λ k. k < 2 → IsRingOf d (media.disk z).sizes k (ring_at (set b m now) k)) m
+          two = let size = length-set b m now in let two = before.two in omega (arith, size, two);
+          each = of_all (λ k. IsRingOf d (media.disk z).sizes k (ring_at (set b m now) k)) (further_on (set b m now)) (λ k below. at_one (λ k. k < length b → IsRingOf d (media.disk z).sizes k (ring_at (set b m now) k)) m
               (λ lt. subst (IsRingOf d (media.disk z).sizes m) (sym set_here) (here (subst (IsRingOf d (media.disk y).sizes m) (sym is) (ring_is before m lt))))
-              (λ k other lt. subst (IsRingOf d (media.disk z).sizes k) (sym (set_beside k other)) (subst (λ (s : List ℕ). IsRingOf d s k (ring_at b k)) (sym writes.sizes) (ring_is before k lt))));
+              (λ k other lt. subst (IsRingOf d (media.disk z).sizes k) (sym (set_beside k other)) (subst (λ (s : List ℕ). IsRingOf d s k (ring_at b k)) (sym writes.sizes) (ring_is before k lt))) k
+              (let size = length-set b m now in let two = before.two in omega (arith, below, size, two)));
         }
       where
         here : IsRingOf d (media.disk y).sizes m ring → IsRingOf d (media.disk z).sizes m now
@@ -220,11 +215,12 @@ module _ {M : Type 0} (media : MediaTells M) (from m : ℕ) (a b : List RingStat
 
     pub keeps_on : KeepsBeside media from a (set b m now) x z
     keeps_on = record {
+      size = length-set b m now ∙ keeps.size;
       rings = are_after;
       untouched = λ k lt. set_beside k (lower k m (omega (arith, lt, low))) ∙ keeps.untouched k lt;
       fronts = λ told k. front_joined _ _ _ (keeps.fronts told k) (at_one (λ k. SameFront (content (media.disk y).reads k) (content (media.disk z).reads k)) m (front_here told)
           (λ k other. subst (SameFront (content (media.disk y).reads k)) (sym (others told k other)) (front_same _)) k);
-      others = λ told k out. others told k (outside from 2 m k low high out) ∙ keeps.others told k out;
+      others = λ told k out. others told k (outside from (length a) m k low high out) ∙ keeps.others told k out;
       sizes = writes.sizes ∙ keeps.sizes;
       counts = writes.counts ∙ keeps.counts;
       later = none_falls_join _ _ _ keeps.later writes.cause.later;
@@ -250,13 +246,13 @@ module _ {M : Type 0} (media : MediaTells M) (from m : ℕ) (a b : List RingStat
       changes = subst (λ (p : RingState × List ℕ). ChangesOnly m (λ bytes. Lacks ordered p.0 (pins_at m pins) (placed m) first records p.1 bytes ⊎ Has ordered p.0 (pins_at m pins) (placed m) first records p.1 bytes)
           (media.disk y) (media.disk z)) (λ i. (is_first i, walks.unread m (omega arith) i)) made.moments
 
-      pub walks_on : AtEachMoment (media.disk x) (media.disk z) (Passes LacksIt HasIt from 2 (media.disk x).now)
-      walks_on = goes_on LacksIt HasIt from 2 m low high (media.disk x) (media.disk y) (media.disk z) walks.walked changes
+      pub walks_on : AtEachMoment (media.disk x) (media.disk z) (Passes LacksIt HasIt from (length a) (media.disk x).now)
+      walks_on = goes_on LacksIt HasIt from (length a) m low high (media.disk x) (media.disk y) (media.disk z) walks.walked changes
 
       -- It has it.
       pub walks_step : (u : ⊤) → result ≡ Ok u → Walks ordered sizes from a pins placed first all records (media.disk x) (m + 1) (set b m now) (media.disk z)
       walks_step u ok = record {
-        walked = steps LacksIt HasIt from 2 m low high (media.disk x) (media.disk y) (media.disk z) walks.walked changes others given_here;
+        walked = steps LacksIt HasIt from (length a) m low high (media.disk x) (media.disk y) (media.disk z) walks.walked changes others given_here;
         waiting = λ k le lt.
             let w = walks.waiting k (omega (arith, le)) lt in
             record { reads = still (ring_at a k) (placed k) (apart are k lt (higher k m (omega (arith, le)))) w.reads; goes_on = w.goes_on; may = w.may };
@@ -268,11 +264,11 @@ module _ {M : Type 0} (media : MediaTells M) (from m : ℕ) (a b : List RingStat
               stages = g.stages;
               are = g.are;
               reads = subst (λ (r : RingState). rings.Reads r g.stages.left (media.disk z)) (sym (set_beside k (lower k m lt)))
-                  (still (ring_at b k) g.stages.left (apart (keeps.rings c are) k (omega (arith, lt, high)) (lower k m lt)) g.reads);
+                  (still (ring_at b k) g.stages.left (apart (keeps.rings c are) k (omega (arith, lt, high_now)) (lower k m lt)) g.reads);
             }) (λ low. subst (λ (r : RingState). IsGiven (ring_at a m) r (pins_at m pins) (placed m) first records (media.disk z)) (sym set_here) given_now) k lt;
       }
         where
-          apart : {s : List ℕ} {rs : List RingState} → AreRingsOf c s rs → (k : ℕ) → k < 2 → k ≢ m → (ring_at rs k).medium ≢ m
+          apart : {s : List ℕ} {rs : List RingState} → AreRingsOf c s rs → (k : ℕ) → k < length rs → k ≢ m → (ring_at rs k).medium ≢ m
           apart of_it k lt other = λ e. other (sym (ring_is of_it k lt).medium ∙ e)
 
           still : (r : RingState) (ps : List Placed) → r.medium ≢ m → rings.Reads r ps (media.disk y) → rings.Reads r ps (media.disk z)

@@ -1,6 +1,6 @@
 -- What a visit of a vault's media is, once its end is known.
 use Rattle.std.proofs.Common.{◌≡◌, ℕ, List, [], Option, Bool, true, false, Result, Ok, Err}
-use Rattle.std.proofs.Common.{refl, sym, ap, ◌∙◌, subst}
+use Rattle.std.proofs.Common.{refl, sym, ◌∙◌, subst}
 use Rattle.std.specs.Bool.{⊤}
 use Rattle.std.proofs.KnownBytes.{Appends-nil}
 use Rattle.vdr_terms.specs.Queries.{Query}

@@ -19,8 +19,9 @@ use Rattle.vdr_directory.specs.Holds.{HoldsPlaced}
 use Rattle.vdr_ring.specs.Rings.{RingState}
 use Rattle.vdr_incident.specs.Tables.{HoldsTable}
 use Rattle.vdr_ring.specs.Whole.{is_filled}
-use Rattle.vdr_media.proofs.Two.{all_two}
-use Rattle.vdr_opening.specs.Media.{members, HasFront, HoldsContents, IsMedium, slots_on}
+use Rattle.vdr_opening.specs.Answers.{further_on, members_on}
+use Rattle.vdr_media.proofs.Members.{of_all, of_each}
+use Rattle.vdr_opening.specs.Media.{HasFront, HoldsContents, IsMedium, slots_on}
 use Rattle.vdr_vault.specs.Vaults.{VaultState, HoldsHistory, ShowsHistory, Stands, contents_of, of_stamp, ring_of}
 use Rattle.vdr_vault.proofs.Kept.{filled_there, keeps_window}
 use Rattle.vdr_durability.specs.Soundness.{IsUnbroken}
@@ -71,10 +72,10 @@ module _ {tells tells_images : Type 0} where
       → AreSound (contents_of opening vault placed vault.table)
   stands_sound opening events vault placed disk stands =
       sound_level (contents_of opening vault placed vault.table) (λ m. (ring_of vault m).slots)
-      (all_two (λ m. is_filled (ring_of vault m).slots (placed m) ≡ is_filled (ring_of vault m).slots (placed m)) refl refl) stands.level
-      (All-weaker (λ m. HoldsHistory opening events vault.config m (ring_of vault m) (placed m) disk) (λ m. InOrder (placed m)) (λ m h. h.reads.order) members stands.media)
-      (sound_alone opening events vault.config 0 (ring_of vault 0) (placed 0) vault.table disk (stands.media 0 0 (omega arith)) (ap (λ (s : Settings). s.seconds 0) stands.settings) stands.incidents_are)
-      (sound_alone opening events vault.config 1 (ring_of vault 1) (placed 1) vault.table disk (stands.media 1 1 (omega arith)) (ap (λ (s : Settings). s.seconds 1) stands.settings) stands.incidents_are)
+      (of_all (λ m. is_filled (ring_of vault m).slots (placed m) ≡ is_filled (ring_of vault m).slots (placed m)) (further_on vault.rings) (λ k lt. refl)) stands.level
+      (All-weaker (λ m. HoldsHistory opening events vault.config m (ring_of vault m) (placed m) disk) (λ m. InOrder (placed m)) (λ m h. h.reads.order) (members_on vault.rings) stands.media)
+      (λ k lt. sound_alone opening events vault.config k (ring_of vault k) (placed k) vault.table disk (of_each (λ m. HoldsHistory opening events vault.config m (ring_of vault m) (placed m) disk) (further_on vault.rings) stands.media k lt)
+      (ap (λ (s : Settings). s.seconds k) stands.settings) stands.incidents_are)
 
   -- What a stop may leave of a vault at rest shows all its events.
   pub stand_shows : (opening : Opening) (events : List Event) (vault : VaultState) (placed : ℕ → List Placed) (disk : Disk tells tells_images) → Stands opening events vault placed disk
@@ -83,7 +84,7 @@ module _ {tells tells_images : Type 0} where
       shown_level opening events (contents_of opening vault placed vault.table) image holds
       (stands_sound opening events vault placed disk stands) refl stands.incidents_are stands.level
       (All-weaker (λ m. HoldsHistory opening events vault.config m (ring_of vault m) (placed m) disk)
-      (λ m. Retains (opening.settings.seconds m) (pins_on m (incidents opening events)) (given_with opening events m) (sequence.all_records (placed m))) (λ m h. h.retains) members stands.media)
+      (λ m. Retains (opening.settings.seconds m) (pins_on m (incidents opening events)) (given_with opening events m) (sequence.all_records (placed m))) (λ m h. h.retains) (members_on vault.rings) stands.media)
     where
       told : tells
       told = (disk.shown (disk.told image now)).0
@@ -93,21 +94,22 @@ module _ {tells tells_images : Type 0} where
 
       holds : HoldsContents image (contents_of opening vault placed vault.table)
       holds = record {
+        further = stands.version image now;
         media = All-weaker (λ m. HoldsHistory opening events vault.config m (ring_of vault m) (placed m) disk)
             (λ m. IsMedium m vault.config opening.settings.text (placed m) (content image m))
-            (λ m h. legible_at opening events vault.config m (ring_of vault m) (placed m) disk h image now) members stands.media;
+            (λ m h. legible_at opening events vault.config m (ring_of vault m) (placed m) disk h image now) (members_on vault.rings) stands.media;
         table = subst (HoldsTable vault.config.incident_slots vault.table) (sym (long.each image now)) (stands.table told);
         there = stands.there;
         filled = All-weaker (λ m. HoldsHistory opening events vault.config m (ring_of vault m) (placed m) disk)
             (λ m. is_filled (ring_of vault m).slots (placed m) ≡ is_filled (slots_on vault.config image m) (placed m))
             (λ m h. filled_there vault.config disk.sizes m (ring_of vault m) (placed m) (content image m) h.is_its
-            (ap length ((durable_at opening events vault.config m (ring_of vault m) (placed m) disk h).each image now) ∙ size_read disk m told)) members stands.media;
+            (ap length ((durable_at opening events vault.config m (ring_of vault m) (placed m) disk h).each image now) ∙ size_read disk m told)) (members_on vault.rings) stands.media;
       }
 
   -- It stands on over calls that only read.
   pub stands_still : (opening : Opening) (events : List Event) (vault : VaultState) (placed : ℕ → List Placed) (old new : Disk tells tells_images) → Unchanged old new
       → Stands opening events vault placed old → Stands opening events vault placed new
-  stands_still opening events vault placed old new same = stands_over opening events placed vault vault old new refl (λ k. other_read (ring_of vault k) old new same)
+  stands_still opening events vault placed old new same = stands_over opening events placed vault vault old new refl refl (λ k. other_read (ring_of vault k) old new same)
 
 -- And with an event that records nothing.
 module _ (opening : Opening) (events : List Event) (e : Event) (none : records_of_act e.act ≡ []) where
@@ -148,10 +150,12 @@ module _ (opening : Opening) (events : List Event) (e : Event) (none : records_o
       settings = stands.settings;
       working = stands.working;
       media = All-weaker (λ m. HoldsHistory opening events vault.config m (ring_of vault m) (placed m) disk) (λ m. HoldsHistory opening (events ++ e ∷ []) vault.config m (ring_of vault m) (placed m) disk)
-          (λ m h. history_silent vault.config m (ring_of vault m) (placed m) disk h) members stands.media;
+          (λ m h. history_silent vault.config m (ring_of vault m) (placed m) disk h) (members_on vault.rings) stands.media;
       level = stands.level;
       incidents_are = stands.incidents_are ∙ sym same_table;
       slots = stands.slots;
+      version = stands.version;
+      read_version = stands.read_version;
       table = stands.table;
       there = stands.there;
       goes_on = stands.goes_on ∙ sym same_next;

@@ -1,5 +1,7 @@
 -- What stands before the slots stays while batches are written.
-use Rattle.std.proofs.Common.{◌≡◌, ◌≤◌, ◌+◌, ◌*◌, ℕ, Bool, true, false, List, [], ◌∷◌, length, get_or, take, slice_get, if◌then◌else◌, Option, Result, Ok, Err, refl, sym, ap, ◌∙◌, subst, arith, ◌<◌, ◌++◌, All, Contains}
+use Rattle.std.proofs.Common.{◌≡◌, ◌≤◌, ◌+◌, ◌*◌, ℕ, Bool, true, false, List, [], ◌∷◌, length, get_or, take, slice_get, if◌then◌else◌, Option, Result, Ok, Err, refl, sym, ap, ◌∙◌, subst, arith, ◌<◌, ◌++◌, All, Contains, zero, suc}
+use Rattle.std.specs.List.{range_with_len}
+use Rattle.vdr_media.proofs.Members.{numbers}
 use Rattle.std.specs.Prelude.{nat_lt}
 use Rattle.std.proofs.lemmas.Bool.{ltb-false}
 use Rattle.vdr_terms.specs.Needs.{Fits}
@@ -15,8 +17,8 @@ use Rattle.vdr_outside.specs.Parts.{part}
 use Rattle.vdr_segment.specs.Slots.{SameFront}
 use Rattle.vdr_incident.specs.Saves.{IsIncidentSlot}
 use Rattle.vdr_incident.specs.Tables.{HoldsTable}
-use Rattle.vdr_opening.specs.Media.{HasFront, members, Contents, HoldsContents, IsMedium, reading_of}
-use Rattle.std.proofs.lemmas.List.Elements.{All-nil, All-cons, All-weaker}
+use Rattle.vdr_opening.specs.Media.{HasFront, members_with, Contents, HoldsContents, IsMedium, reading_of}
+use Rattle.std.proofs.lemmas.List.Elements.{Contains-get_or, All-nil, All-cons, All-weaker}
 use Rattle.vdr_terms.specs.Records.{Record, last}
 use Rattle.vdr_terms.specs.Order.{AreInOrder as RecordsAreInOrder}
 use Rattle.vdr_core.specs.Histories.Act.{Commit}
@@ -25,7 +27,7 @@ use Rattle.vdr_durability.specs.Layout.{segment_records}
 use Rattle.vdr_durability.specs.Regular.{FollowOn}
 use Rattle.vdr_durability.specs.Retention.{Retains}
 use Rattle.vdr_durability.proofs.Lists.{contains_here, contains_there}
-use Rattle.vdr_durability.specs.Readings.{AreLevel, AreMembers, IsPassedOn}
+use Rattle.vdr_durability.specs.Readings.{AreLevel, AreMembers, Ascend, IsPassedOn}
 use Rattle.vdr_durability.specs.Shown.{Shows, pins_on}
 use Rattle.vdr_durability.proofs.Shows.{commit_shows, level_shows}
 use Rattle.vdr_outside.specs.Disk.{Image, content}
@@ -95,17 +97,28 @@ module _ (old new : List ℕ) (same : SameFront old new) where
 
 -- What an image shows that holds legible contents.
 
-pub are_members : AreMembers members
-are_members = record {
+above : (a b n : ℕ) → a < b → All (λ k. a < k) (range_with_len b n)
+above a b zero lt = All-nil (λ k. a < k)
+above a b (suc n) lt = All-cons (λ k. a < k) b (range_with_len (b + 1) n) lt (above a (b + 1) n (omega (arith, lt)))
+
+ascending : (a n : ℕ) → Ascend (range_with_len a n)
+ascending a zero = tt
+ascending a (suc n) = (above a (a + 1) n (omega arith), ascending (a + 1) n)
+
+pub are_members : (n : ℕ) → AreMembers (members_with n)
+are_members n = record {
   some = omega arith;
-  ascend = (All-cons (λ k. 0 < k) 1 [] (omega arith) (All-nil (λ k. 0 < k)), (All-nil (λ k. 1 < k), tt));
+  ascend = (All-cons (λ k. 0 < k) 1 (range_with_len 2 n) (omega arith) (above 0 2 n (omega arith)), (above 1 2 n (omega arith), ascending 2 n));
 }
 
-pub has_capsule : Contains members 0
-has_capsule = contains_here 0 (1 ∷ [])
+pub has_capsule : (n : ℕ) → Contains (members_with n) 0
+has_capsule n = contains_here 0 (1 ∷ range_with_len 2 n)
 
-pub has_long_term : Contains members 1
-has_long_term = contains_there 0 (1 ∷ []) 1 (contains_here 1 [])
+pub has_long_term : (n : ℕ) → Contains (members_with n) 1
+has_long_term n = contains_there 0 (1 ∷ range_with_len 2 n) 1 (contains_here 1 (range_with_len 2 n))
+
+pub is_member : (n m : ℕ) → m < 2 + n → Contains (members_with n) m
+is_member n m lt = let size = (numbers n).size in subst (Contains (members_with n)) ((numbers n).at m 0 lt) (Contains-get_or (members_with n) m 0 (omega (arith, lt, size)))
 
 -- What medium m was given is retained in these segments.
 abbrev pub RetainsGiven : Opening → List Event → (given : ℕ → List Record) → (placed : ℕ → List Placed) → ℕ → Type 0
@@ -117,30 +130,30 @@ module _ (opening : Opening) (events : List Event) (x : Contents) (image : Image
   read_retained given m h = subst (Retains (opening.settings.seconds m) (pins_on m (incidents opening events)) (given m)) (sym (records_are (x.placed m))) h
 
   -- Level media show what they retain.
-  pub shown_level : AreLevel members (reading_of x) → All (RetainsGiven opening events (λ m. all_given opening m events) x.placed) members → ShowsHistory opening events image
+  pub shown_level : AreLevel (members_with x.further) (reading_of x) → All (RetainsGiven opening events (λ m. all_given opening m events) x.placed) (members_with x.further) → ShowsHistory opening events image
   shown_level level retained = (
-    members,
+    members_with x.further,
     reading_of x,
     record { reads = record { members_are = refl; contents = x; holds = holds; is = refl }; sound = sound },
-    level_shows members opening events (reading_of x) are_members has_long_term text table level
+    level_shows (members_with x.further) opening events (reading_of x) (are_members x.further) (has_long_term x.further) text table level
         (All-weaker (λ m. IsMedium m x.config x.text (x.placed m) (content image m)) (λ m. RecordsAreInOrder (segment_records (batches_in (x.placed m))))
-        (λ m h. subst RecordsAreInOrder (sym (records_are (x.placed m))) (in_order_records (x.placed m) h.segments.order)) members holds.media)
+        (λ m h. subst RecordsAreInOrder (sym (records_are (x.placed m))) (in_order_records (x.placed m) h.segments.order)) (members_with x.further) holds.media)
         (All-weaker (RetainsGiven opening events (λ m. all_given opening m events) x.placed) (λ m. Retains (opening.settings.seconds m) (pins_on m (incidents opening events)) (all_given opening m events) (segment_records (batches_in (x.placed m))))
-        (λ m h. read_retained (λ m. all_given opening m events) m h) members retained),
+        (λ m h. read_retained (λ m. all_given opening m events) m h) (members_with x.further) retained),
   )
 
   -- Media to which a batch is on its way show it, once the first has it.
-  pub shown_passed : (e : Event) (records : List Record) (taken : List Captured) (given waiting : List ℕ) → e.act ≡ Commit records taken → IsPassedOn members given waiting records (reading_of x)
-      → All (λ m. FollowOn (last (all_given opening m events)) records) members
+  pub shown_passed : (e : Event) (records : List Record) (taken : List Captured) (given waiting : List ℕ) → e.act ≡ Commit records taken → IsPassedOn (members_with x.further) given waiting records (reading_of x)
+      → All (λ m. FollowOn (last (all_given opening m events)) records) (members_with x.further)
       → All (RetainsGiven opening events (λ m. all_given opening m events ++ records) x.placed) given
       → All (RetainsGiven opening events (λ m. all_given opening m events) x.placed) waiting
       → ShowsHistory opening (events ++ e ∷ []) image
   shown_passed e records taken given waiting is passed follow here there = (
-    members,
+    members_with x.further,
     reading_of x,
     record { reads = record { members_are = refl; contents = x; holds = holds; is = refl }; sound = sound },
-    subst (λ (a : Act). Shows members opening (events ++ record { act = a; moment = e.moment } ∷ []) (reading_of x)) (sym is)
-        (commit_shows members given waiting opening events records taken e.moment (reading_of x) are_members has_long_term text table passed follow
+    subst (λ (a : Act). Shows (members_with x.further) opening (events ++ record { act = a; moment = e.moment } ∷ []) (reading_of x)) (sym is)
+        (commit_shows (members_with x.further) given waiting opening events records taken e.moment (reading_of x) (are_members x.further) (has_long_term x.further) text table passed follow
         (All-weaker (RetainsGiven opening events (λ m. all_given opening m events ++ records) x.placed) (λ m. Retains (opening.settings.seconds m) (pins_on m (incidents opening events)) (all_given opening m events ++ records) (segment_records (batches_in (x.placed m))))
         (λ m h. read_retained (λ m. all_given opening m events ++ records) m h) given here)
         (All-weaker (RetainsGiven opening events (λ m. all_given opening m events) x.placed) (λ m. Retains (opening.settings.seconds m) (pins_on m (incidents opening events)) (all_given opening m events) (segment_records (batches_in (x.placed m))))

@@ -1,5 +1,5 @@
 -- What stays on the long-term medium while one incident slot is written.
-use Rattle.std.proofs.Common.{◌≡◌, inl, inr, ◌<◌, ◌≤◌, ℕ, List, length, [], ◌∷◌, sym, ap, ◌∙◌, subst, arith, zero, suc, ◌++◌, Option, Some, None, refl, ⊎_elim, Result, OnOk, All, option_map}
+use Rattle.std.proofs.Common.{Bool, ◌≡◌, inl, inr, ◌<◌, ◌≤◌, ℕ, List, length, get_or, [], ◌∷◌, sym, ap, ◌∙◌, subst, arith, zero, suc, ◌++◌, Option, Some, None, refl, ⊎_elim, Result, OnOk, All, option_map, ◌+◌, if◌then◌else◌, ◌≢◌}
 use Rattle.vdr_outside.specs.Parts.{part}
 use Rattle.vdr_config.specs.Configuration.{Configuration, IsConfiguration}
 use Rattle.vdr_config.specs.Sizes.{sizes_of}
@@ -31,15 +31,17 @@ use Rattle.vdr_terms.specs.Records.{Record}
 use Rattle.vdr_terms.specs.Order.{AreInOrder}
 use Rattle.vdr_durability.specs.Keeping.{ShowsEither}
 use Rattle.vdr_outside.specs.Moments.{AtEachMoment, Changed, ChangesOnly, Settled}
-use Rattle.vdr_outside.proofs.Moments.{moments_weaken, size_read}
-use Rattle.vdr_media.proofs.Two.{all_two}
+use Rattle.vdr_outside.proofs.Moments.{now_after, moments_weaken, size_read}
+use Rattle.vdr_media.proofs.Members.{of_all, of_each}
+use Rattle.vdr_opening.specs.Answers.{further_on}
+use Rattle.vdr_vault.proofs.Members.{at_one}
+use Rattle.std.proofs.lemmas.Bool.{ne_eqb}
 use Rattle.vdr_segment.specs.Slots.{place_of}
 use Rattle.vdr_ring.specs.Rings.{RingState}
 use Rattle.vdr_ring.specs.Openings.{IsRingOf}
-use Rattle.vdr_media.proofs.Formats.{zero_one}
 use Rattle.vdr_vault.proofs.CommitAll.{history_meanwhile}
 use Rattle.vdr_vault.proofs.ShownHistory.{durable_at, held_at, legible_at, same_given, same_next, same_stamp, sound_alone, stands_sound}
-use Rattle.vdr_vault.proofs.Sounding.{IsSoundAlone, no_pins, sound_level}
+use Rattle.vdr_vault.proofs.Sounding.{IsSoundAlone, sound_level}
 use Rattle.vdr_durability.specs.Soundness.{IsUnbroken}
 use Rattle.vdr_vault.specs.Regularity.{AreSound}
 use Rattle.vdr_directory.specs.Order.{AreInOrder as InOrder}
@@ -140,38 +142,51 @@ slot_written opening events e vault placed disk stands id slot silent table may 
 abbrev with_table : VaultState → List (Option Incident) → VaultState
 with_table vault after = record vault { table = after }
 
+-- A medium that is not the long-term one keeps no pins.
+pins_none : (m : ℕ) → m ≢ 1 → (table : List (Option Incident)) → pins_on m table ≡ []
+pins_none m apart table = ap (λ (b : Bool). if b then pins_of table else []) (ne_eqb m 1 apart)
+
 module _ {tells tells_images : Type 0} (opening : Opening) (events : List Event) (e : Event) (vault : VaultState) (placed : ℕ → List Placed) (old : Disk tells tells_images)
     (stands : Stands opening events vault placed old) (after : List (Option Incident)) (written : IsWritten opening events e vault.config (placed 1) after) where
   abbrev with_event : List Event
   with_event = events ++ e ∷ []
 
-  capsule : HoldsHistory opening events vault.config 0 (ring_of vault 0) (placed 0) old
-  capsule = stands.media 0 0 (omega arith)
+  abbrev n : ℕ
+  n = further_on vault.rings
+
+  history : (k : ℕ) → k < 2 + n → HoldsHistory opening events vault.config k (ring_of vault k) (placed k) old
+  history = of_each (λ k. HoldsHistory opening events vault.config k (ring_of vault k) (placed k) old) n stands.media
 
   long_term : HoldsHistory opening events vault.config 1 (ring_of vault 1) (placed 1) old
   long_term = stands.media 1 1 (omega arith)
 
   -- What each medium retains with the event.
-  capsule_retains : RetainsGiven opening with_event (given_with opening with_event) placed 0
-  capsule_retains = subst (λ (all : List Record). Retains (opening.settings.seconds 0) [] all (all_records (placed 0))) (sym (same_given opening events e written.silent 0)) capsule.retains
-
   long_term_retains : RetainsGiven opening with_event (given_with opening with_event) placed 1
   long_term_retains = subst (λ (p : List Record × List (Option Incident)). Retains (opening.settings.seconds 1) (pins_of p.1) p.0 (all_records (placed 1)))
       (λ i. (sym (same_given opening events e written.silent 1) i, sym written.table i)) (record { window = long_term.retains.window; places = written.places })
 
+  no_others : (m : ℕ) → m ≢ 1 → (one other : List (Option Incident)) → pins_on m one ≡ pins_on m other
+  no_others m apart one other = pins_none m apart one ∙ sym (pins_none m apart other)
+
+  retains_with : (m : ℕ) → m < 2 + n → RetainsGiven opening with_event (given_with opening with_event) placed m
+  retains_with = at_one (λ m. m < 2 + n → RetainsGiven opening with_event (given_with opening with_event) placed m) 1 (λ _. long_term_retains)
+      (λ m apart lt. subst (λ (p : List Record × List Pin). Retains (opening.settings.seconds m) p.1 p.0 (all_records (placed m)))
+      (λ i. (sym (same_given opening events e written.silent m) i, no_others m apart (incidents opening events) (incidents opening with_event) i)) (history m lt).retains)
+
+  pins_with : (m : ℕ) → m ≢ 1 → m < 2 + n → (table : List (Option Incident)) → ArePinsOf (sizes_of vault.config) m (all_records (placed m)) (pins_on m table)
+  pins_with m apart lt table = subst (ArePinsOf (sizes_of vault.config) m (all_records (placed m))) (no_others m apart (incidents opening events) table) (history m lt).pins
+
   -- With the other table the media are as sound.
   written_sound : AreSound (contents_of opening vault placed after)
   written_sound = sound_level (contents_of opening vault placed after) (λ m. (ring_of vault m).slots)
-      (all_two (λ m. is_filled (ring_of vault m).slots (placed m) ≡ is_filled (ring_of vault m).slots (placed m)) refl refl) stands.level
-      (all_two (λ m. InOrder (placed m)) capsule.reads.order long_term.reads.order)
-      (record { regular = capsule.regular; pins = no_pins vault.config (all_records (placed 0)); unbroken = alone_capsule.unbroken; keeps = alone_capsule.keeps })
-      (record { regular = long_term.regular; pins = written.pins; unbroken = alone_long_term.unbroken; keeps = alone_long_term.keeps })
+      (of_all (λ m. is_filled (ring_of vault m).slots (placed m) ≡ is_filled (ring_of vault m).slots (placed m)) n (λ k lt. refl)) stands.level
+      (of_all (λ m. InOrder (placed m)) n (λ k lt. (history k lt).reads.order))
+      (at_one (λ k. k < 2 + n → IsSoundAlone vault.config k (ring_of vault k).slots (placed k) after (all_records (placed k))) 1
+      (λ lt. record { regular = long_term.regular; pins = written.pins; unbroken = (alone 1 lt).unbroken; keeps = (alone 1 lt).keeps })
+      (λ k apart lt. record { regular = (history k lt).regular; pins = pins_with k apart lt after; unbroken = (alone k lt).unbroken; keeps = (alone k lt).keeps }))
     where
-      alone_capsule : IsSoundAlone vault.config 0 (ring_of vault 0).slots (placed 0) vault.table (all_records (placed 0))
-      alone_capsule = sound_alone opening events vault.config 0 (ring_of vault 0) (placed 0) vault.table old capsule (ap (λ (s : Settings). s.seconds 0) stands.settings) stands.incidents_are
-
-      alone_long_term : IsSoundAlone vault.config 1 (ring_of vault 1).slots (placed 1) vault.table (all_records (placed 1))
-      alone_long_term = sound_alone opening events vault.config 1 (ring_of vault 1) (placed 1) vault.table old long_term (ap (λ (s : Settings). s.seconds 1) stands.settings) stands.incidents_are
+      alone : (k : ℕ) → k < 2 + n → IsSoundAlone vault.config k (ring_of vault k).slots (placed k) vault.table (all_records (placed k))
+      alone k lt = sound_alone opening events vault.config k (ring_of vault k) (placed k) vault.table old (history k lt) (ap (λ (s : Settings). s.seconds k) stands.settings) stands.incidents_are
 
   -- What an image holds of which the slot alone was written.
   module _ (slot : ℕ) (low : slot < 32) (P : List ℕ → Type 0) (i : Image) (changed : Changed 1 P old.now i) where
@@ -181,31 +196,34 @@ module _ {tells tells_images : Type 0} (opening : Opening) (events : List Event)
     holds : (table : List (Option Incident)) → AreThere table (placed 1) → HoldsBeside slot vault.config.incident_slots table (content old.reads 1) (content i 1)
         → HoldsContents i (contents_of opening vault placed table)
     holds table there h = record {
-      media = all_two (λ m. IsMedium m vault.config opening.settings.text (placed m) (content i m))
-          (subst (IsMedium 0 vault.config opening.settings.text (placed 0)) (sym (changed.others 0 zero_one))
-          (legible_at opening events vault.config 0 (ring_of vault 0) (placed 0) old capsule changed.image changed.was))
-          (medium_beside slot low (content old.reads 1) (content i 1) h.beside 1 vault.config opening.settings.text (placed 1)
+      further = stands.version changed.image changed.was;
+      media = of_all (λ m. IsMedium m vault.config opening.settings.text (placed m) (content i m)) n (at_one (λ m. m < 2 + n → IsMedium m vault.config opening.settings.text (placed m) (content i m)) 1
+          (λ _. medium_beside slot low (content old.reads 1) (content i 1) h.beside 1 vault.config opening.settings.text (placed 1)
           (subst (IsMedium 1 vault.config opening.settings.text (placed 1)) ((durable_at opening events vault.config 1 (ring_of vault 1) (placed 1) old long_term).each changed.image changed.was)
-          (legible_at opening events vault.config 1 (ring_of vault 1) (placed 1) old long_term changed.image changed.was)));
+          (legible_at opening events vault.config 1 (ring_of vault 1) (placed 1) old long_term changed.image changed.was)))
+          (λ m apart lt. subst (IsMedium m vault.config opening.settings.text (placed m)) (sym (changed.others m apart))
+          (legible_at opening events vault.config m (ring_of vault m) (placed m) old (history m lt) changed.image changed.was)));
       table = h.holds;
       there = there;
-      filled = all_two (λ m. is_filled (ring_of vault m).slots (placed m) ≡ is_filled (slots_on vault.config i m) (placed m))
-          (filled_there vault.config old.sizes 0 (ring_of vault 0) (placed 0) (content i 0) capsule.is_its
-          (ap length (changed.others 0 zero_one ∙ (durable_at opening events vault.config 0 (ring_of vault 0) (placed 0) old capsule).each changed.image changed.was) ∙ size_read old 0 told))
-          (filled_there vault.config old.sizes 1 (ring_of vault 1) (placed 1) (content i 1) long_term.is_its (h.beside.size ∙ size_read old 1 told));
+      filled = of_all (λ m. is_filled (ring_of vault m).slots (placed m) ≡ is_filled (slots_on vault.config i m) (placed m)) n
+          (λ k lt. filled_there vault.config old.sizes k (ring_of vault k) (placed k) (content i k) (history k lt).is_its (size_there k lt));
     }
+      where
+        size_there : (k : ℕ) → k < 2 + n → length (content i k) ≡ get_or old.sizes k 0
+        size_there = at_one (λ k. k < 2 + n → length (content i k) ≡ get_or old.sizes k 0) 1 (λ _. h.beside.size ∙ size_read old 1 told)
+            (λ k apart lt. ap length (changed.others k apart ∙ (durable_at opening events vault.config k (ring_of vault k) (placed k) old (history k lt)).each changed.image changed.was) ∙ size_read old k told)
 
     shows_before : HoldsBeside slot vault.config.incident_slots vault.table (content old.reads 1) (content i 1) → ShowsHistory opening events i
     shows_before h =
         shown_level opening events (contents_of opening vault placed vault.table) i (holds vault.table stands.there h)
         (stands_sound opening events vault placed old stands) refl
-        stands.incidents_are stands.level (all_two (RetainsGiven opening events (given_with opening events) placed) capsule.retains long_term.retains)
+        stands.incidents_are stands.level (of_all (RetainsGiven opening events (given_with opening events) placed) n (λ k lt. (history k lt).retains))
 
     shows_after : HoldsBeside slot vault.config.incident_slots after (content old.reads 1) (content i 1) → ShowsHistory opening with_event i
     shows_after h =
         shown_level opening with_event (contents_of opening vault placed after) i (holds after written.there h)
         written_sound refl
-        (sym written.table) stands.level (all_two (RetainsGiven opening with_event (given_with opening with_event) placed) capsule_retains long_term_retains)
+        (sym written.table) stands.level (of_all (RetainsGiven opening with_event (given_with opening with_event) placed) n retains_with)
 
   written_moments : (slot : ℕ) → slot < 32 → (new : Disk tells tells_images)
       → ChangesOnly 1 (HoldsEither slot vault.config.incident_slots vault.table after (content old.reads 1)) old new
@@ -269,13 +287,16 @@ module _ {tells tells_images : Type 0} (opening : Opening) (events : List Event)
     written_stands = record {
       settings = stands.settings;
       working = stands.working;
-      media = all_two (λ m. HoldsHistory opening with_event vault.config m (ring_of vault m) (placed m) new)
-          (with_history 0 (ring_of vault 0) new (history_meanwhile opening events vault.config 1 0 (ring_of vault 0) (placed 0) P old new zero_one moments others sizes capsule) capsule_retains capsule.pins)
-          (with_history 1 (ring_of vault 1) new long_term_now long_term_retains
-          (subst (λ (t : List (Option Incident)). ArePinsOf (sizes_of vault.config) 1 (all_records (placed 1)) (pins_of t)) (sym written.table) written.pins));
+      media = of_all (λ m. HoldsHistory opening with_event vault.config m (ring_of vault m) (placed m) new) n (at_one (λ m. m < 2 + n → HoldsHistory opening with_event vault.config m (ring_of vault m) (placed m) new) 1
+          (λ lt. with_history 1 (ring_of vault 1) new long_term_now long_term_retains
+          (subst (λ (t : List (Option Incident)). ArePinsOf (sizes_of vault.config) 1 (all_records (placed 1)) (pins_of t)) (sym written.table) written.pins))
+          (λ m apart lt. with_history m (ring_of vault m) new (history_meanwhile opening events vault.config 1 m (ring_of vault m) (placed m) P old new apart moments others sizes (history m lt)) (retains_with m lt)
+          (pins_with m apart lt (incidents opening with_event))));
       level = stands.level;
       incidents_are = sym written.table;
       slots = written.size;
+      version = λ i there. let changed = now_after old new _ moments i there in stands.version changed.image changed.was;
+      read_version = λ told. stands.read_version told;
       table = λ told. (settled.reads told).holds;
       there = written.there;
       goes_on = stands.goes_on ∙ sym (same_next opening events e written.silent);

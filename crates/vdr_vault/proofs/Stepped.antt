@@ -9,13 +9,12 @@ use Rattle.vdr_terms.specs.Queries.{Query}
 use Rattle.vdr_terms.specs.Queries.Span.{Places}
 use Rattle.vdr_durability.specs.Playback.{medium_of}
 use Rattle.vdr_outside.specs.declared.media.Media.{Ghosts as MediaTells}
-use Rattle.vdr_opening.specs.Answers.{ring_at}
-use Rattle.vdr_opening.specs.Media.{members}
-use Rattle.vdr_media.proofs.Two.{of_each}
+use Rattle.vdr_opening.specs.Answers.{further_on}
+use Rattle.vdr_media.proofs.Members.{of_each}
 use Rattle.vdr_ring.specs.Budgets.{Spends, budget}
 use Rattle.vdr_ring.specs.Visits.{HasJudged}
 use Rattle.vdr_ring.specs.declared.refused.ReadRefused.{ReadRefused}
-use Rattle.vdr_ring.specs.declared.refused.ReadRefused.TheVariants.{Damaged, Fault}
+use Rattle.vdr_ring.specs.declared.refused.ReadRefused.TheVariants.{Fault}
 use Rattle.vdr_ring.specs.Steps.{KeepsStep, TellsDamage}
 use Rattle.vdr_ring.specs.Walks.{CursorState}
 use Rattle.vdr_vault.specs.declared.stretch.Stretch.{Stretch}
@@ -35,12 +34,12 @@ module _ {M : Type 0} (media : MediaTells M) (query : Query) (part : Stretch) (o
       → StepsWithin media query part old new from to before after result
   steps_within rings member keeps damage = record {
     among = λ told judged stands. stands_on (ring_for old query) (ring_for new query) (media.disk before) (media.disk after) to.visit keeps.read told
-        (damage.among told (of_each (λ j. HasJudged (ring_of old j) (media.disk before)) judged (medium_of query.medium) member) stands);
+        (damage.among told (of_each (λ j. HasJudged (ring_of old j) (media.disk before)) (further_on old.rings) judged (medium_of query.medium) (omega (arith, member))) stands);
     medium = on_medium query (Places part.next part.last) old (medium_of query.medium) member (media.disk before) rings from to result damage;
     damaged = λ k offset e told judged stands.
         damaged_there query (Places part.next part.last) old (medium_of query.medium) member (media.disk before) rings from to result damage told judged stands k offset e;
     spends = subst (λ (k : ℕ). Spends k (budget (ring_for old query) query (Places part.next part.last) from.standing) (budget (ring_for new query) query (Places part.next part.last) to.standing)
-        (media.bytes_read before) (media.bytes_read after) result) (ring_is rings (medium_of query.medium) member).medium keeps.spends;
+        (media.bytes_read before) (media.bytes_read after) result) (ring_is rings (medium_of query.medium) (let two = rings.two in omega (arith, member, two))).medium keeps.spends;
     onward = keeps.onward;
   }
 

@@ -1,8 +1,8 @@
 -- Which slots of a vault were judged, how a cursor stands among their records after a step, what damage that names, and what it passes over.
-use Rattle.std.proofs.Common.{◌≡◌, ◌<◌, ℕ, inr, Bool, true, false, List, Option, Some, None, Result, Ok, Err, get_or, set, refl, sym, ap, ◌∙◌, subst, arith}
+use Rattle.std.proofs.Common.{◌≡◌, ◌<◌, ℕ, inr, Bool, true, false, List, Option, Some, None, Result, Ok, Err, get_or, length, set, refl, sym, ap, ◌∙◌, subst, arith}
 use Rattle.std.specs.Prelude.{◌+◌, ◌-◌, ◌*◌, ◌^◌}
 use Rattle.std.proofs.lemmas.Bool.{false≢true}
-use Rattle.std.proofs.lemmas.List.{get_or-set_other, get_or-set_same}
+use Rattle.std.proofs.lemmas.List.{length-set, get_or-set_other, get_or-set_same}
 use Rattle.std.proofs.lemmas.Option.{IfSome_then}
 use Rattle.vdr_index.specs.Positions.{IsAt, HasAhead}
 use Rattle.vdr_terms.specs.Queries.{Query, Span}
@@ -23,8 +23,8 @@ use Rattle.vdr_ring.specs.Rings.{RingState}
 use Rattle.vdr_ring.specs.Visits.{HasJudged, StandsAmong, VisitState, slot_read}
 use Rattle.vdr_ring.specs.declared.refused.ReadRefused.{ReadRefused}
 use Rattle.vdr_ring.specs.declared.refused.ReadRefused.TheVariants.{Damaged, Fault}
-use Rattle.vdr_media.proofs.Two.{of_all, of_each}
-use Rattle.vdr_opening.specs.Answers.{AreJudgedOn, AreRingsOf, no_ring, ring_at}
+use Rattle.vdr_media.proofs.Members.{of_all, of_each}
+use Rattle.vdr_opening.specs.Answers.{AreJudgedOn, AreRingsOf, further_on, no_ring, ring_at}
 use Rattle.vdr_opening.proofs.Rings.{judged_beside}
 use Rattle.vdr_ring.specs.declared.cursor.Standing.{Standing}
 use Rattle.vdr_ring.specs.Passing.{ArePassedIntact, IsPassed, StandsToMeet}
@@ -44,14 +44,16 @@ module _ {tells tells_images : Type 0} where
 
   -- One medium is written, and the slot that its ring has loaded then was judged.
   pub judged_after : {c : Configuration} {sizes : List ℕ} (on : List RingState) (m : ℕ) (now : RingState) (before after : Disk tells tells_images)
-      → AreRingsOf c sizes on → m < 2 → HasJudged now after
+      → AreRingsOf c sizes on → m < length on → HasJudged now after
       → (tells → SameBut m before.reads after.reads) → AreJudgedOn on before → AreJudgedOn (set on m now) after
   judged_after on m now before after are lt here others judged =
-      let count = are.count in
-      of_all (λ k. HasJudged (ring_at (set on m now) k) after) (at_one (λ k. k < 2 → HasJudged (ring_at (set on m now) k) after) m
-      (λ below. subst (λ (r : RingState). HasJudged r after) (sym (get_or-set_same on m now no_ring (omega (arith, count, lt)))) here)
+      let size = length-set on m now in
+      let two = are.two in
+      of_all (λ k. HasJudged (ring_at (set on m now) k) after) (further_on (set on m now)) (λ k inside. at_one (λ k. k < length on → HasJudged (ring_at (set on m now) k) after) m
+      (λ below. subst (λ (r : RingState). HasJudged r after) (sym (get_or-set_same on m now no_ring lt)) here)
       (λ k other below. subst (λ (r : RingState). HasJudged r after) (sym (get_or-set_other on m k now no_ring other))
-      (judged_beside (ring_at on k) before after (λ told. others told _ (λ is. other (sym (ring_is are k below).medium ∙ is))) (of_each (λ k. HasJudged (ring_at on k) before) judged k below))))
+      (judged_beside (ring_at on k) before after (λ told. others told _ (λ is. other (sym (ring_is are k below).medium ∙ is))) (of_each (λ k. HasJudged (ring_at on k) before) (further_on on) judged k (omega (arith, below)))))
+      k (omega (arith, inside, size, two)))
 
   -- Damage is told of what the media read as, and of their sizes.
   pub damaged_still : (c : Configuration) (disk other : Disk tells tells_images) → other.sizes ≡ disk.sizes → other.reads ≡ disk.reads → (m offset : ℕ) → IsDamagedOn c disk m offset → IsDamagedOn c other m offset
@@ -119,12 +121,12 @@ module _ {tells tells_images : Type 0} (query : Query) (span : Span) (vault : Va
     (rings : AreRings vault disk.sizes) (from to : CursorState) (result : Result Bool ReadRefused)
     (damage : TellsDamage query span (ring_of vault m) disk from to result) where
   pub on_medium : (k offset : ℕ) → result ≡ Err (Damaged k offset) → k ≡ m
-  on_medium k offset e = damage.medium k offset e ∙ (ring_is rings m lt).medium
+  on_medium k offset e = damage.medium k offset e ∙ (ring_is rings m (let two = rings.two in omega (arith, lt, two))).medium
 
   -- The slot is one of that medium's.
   at_slot : (offset : ℕ) → NamesDamage (ring_of vault m) disk to offset → IsDamagedOn vault.config disk m offset
   at_slot offset named =
-      let its = ring_is rings m lt in (
+      let its = ring_is rings m (let two = rings.two in omega (arith, lt, two)) in (
         lt,
         subst (λ (p : ℕ × ℕ × ℕ). HasDamage p.0 p.1 (content disk.reads p.2) offset) (λ i. (its.segment i, its.slots i, its.medium i))
             (record { slot = named.segment.slot; within = named.within; damaged = named.damaged }),
@@ -134,7 +136,7 @@ module _ {tells tells_images : Type 0} (query : Query) (span : Span) (vault : Va
   pub damaged_there : tells → AreJudged vault disk → StandsAmong (ring_of vault m) disk from.visit → (k offset : ℕ) → result ≡ Err (Damaged k offset)
       → IsDamagedOn vault.config disk k offset
   damaged_there told judged stands k offset e = subst (λ (j : ℕ). IsDamagedOn vault.config disk j offset) (sym (on_medium k offset e))
-      (at_slot offset (damage.named k offset e told (of_each (λ j. HasJudged (ring_of vault j) disk) judged m lt) stands))
+      (at_slot offset (damage.named k offset e told (of_each (λ j. HasJudged (ring_of vault j) disk) (further_on vault.rings) judged m (omega (arith, lt))) stands))
 
 -- A cursor steps on the ring of the query's medium.
 module _ {M : Type 0} (media : MediaTells M) (query : Query) (span : Span) (old new : VaultState) (from to : CursorState) (before after : M)
@@ -143,7 +145,7 @@ module _ {M : Type 0} (media : MediaTells M) (query : Query) (span : Span) (old 
   -- It reads that medium alone, and an error has its cause.
   pub reads_for_play : old.failed ≡ false → ReadsForPlay media (medium_of query.medium) old new before after result
   reads_for_play works =
-      let medium = (ring_is rings (medium_of query.medium) member).medium in
+      let medium = (ring_is rings (medium_of query.medium) (let two = rings.two in omega (arith, member, two))).medium in
       let counts = counts_on (medium_of query.medium) (ring_for old query).medium _ _ _ _ medium keeps.counts in
       record {
         failed = λ had. absurd (false≢true (sym works ∙ had));
@@ -163,7 +165,7 @@ module _ {M : Type 0} (media : MediaTells M) (query : Query) (span : Span) (old 
       (damage : TellsDamage query span (ring_for old query) (media.disk before) from to result) where
     -- Its slot that is loaded was judged.
     was_judged : AreJudged old (media.disk before) → HasJudged (ring_for old query) (media.disk before)
-    was_judged judged = of_each (λ k. HasJudged (ring_of old k) (media.disk before)) judged (medium_of query.medium) member
+    was_judged judged = of_each (λ k. HasJudged (ring_of old k) (media.disk before)) (further_on old.rings) judged (medium_of query.medium) (omega (arith, member))
 
     -- The segments that meet the query, by the span that it comes to.
     to_meet : (slot seq : ℕ) → MeetsFor query old slot seq → IsKnownToMeet query span (ring_for old query).directory.index slot seq

@@ -1,10 +1,9 @@
 -- Stretches of a history, and what is read of them.
-use Rattle.std.proofs.Common.{◌≡◌, ◌≢◌, ◌<◌, ◌≤◌, ◌⊎◌, inl, inr, ◌++◌, ℕ, Bool, false, List, [], ◌∷◌, Contains, Option, Some, None, option_map, Result, Ok, Err, refl, sym, ap, ◌∙◌, subst, arith, append_assoc}
-use Rattle.std.specs.Prelude.{slice_get, min}
+use Rattle.std.proofs.Common.{◌≡◌, ◌≤◌, inl, inr, ◌++◌, ℕ, Bool, false, List, [], ◌∷◌, Contains, Option, Some, None, option_map, Result, refl, sym, ap, ◌∙◌, subst, arith, append_assoc}
+use Rattle.std.specs.Prelude.{slice_get}
 use Rattle.std.proofs.lemmas.List.Elements.{All-contains}
-use Rattle.std.proofs.lemmas.Option.{none-some, same_Some}
 use Rattle.vdr_terms.specs.Order.{AreInOrder}
-use Rattle.vdr_terms.specs.Queries.{Medium, Query, Span}
+use Rattle.vdr_terms.specs.Queries.{Query, Span}
 use Rattle.vdr_terms.specs.Queries.Medium.{WindowOf, Incident}
 use Rattle.vdr_terms.specs.Queries.Span.{Places, Window}
 use Rattle.vdr_terms.specs.Records.{Record, last, second}
@@ -29,16 +28,15 @@ use Rattle.vdr_entry.specs.declared.query.Medium.TheVariants.{Capsule, LongTerm,
 use Rattle.vdr_entry.specs.Queries.{asked, asked_medium}
 use Rattle.vdr_ring.proofs.Medium.{in_order_records}
 use Rattle.vdr_ring.specs.declared.refused.ReadRefused.{ReadRefused}
-use Rattle.vdr_ring.specs.Walks.{AreLeft, CursorState, GivesNext, HasRead, Slots, slots_read}
+use Rattle.vdr_ring.specs.Walks.{AreLeft, CursorState, GivesNext, HasRead, Slots}
 use Rattle.vdr_ring.proofs.CursorReading.{same_slots}
 use Rattle.vdr_vault.specs.declared.stretch.Stretch.{Stretch}
 use Rattle.vdr_vault.specs.Saves.{first_in_window}
 use Rattle.vdr_vault.specs.Vaults.{IsReadable, IsReadableAt, VaultState, ring_of}
-use Rattle.vdr_vault.specs.Plays.{ReadsOn, ring_for}
+use Rattle.vdr_vault.specs.Plays.{ring_for}
 use Rattle.vdr_vault.specs.Stretches.{AreLeftWithin, IsClosed, IsIncidentOf, IsWhole, IsWindowFrom, IsWindowOf, still_selected}
 use Rattle.vdr_vault.proofs.Coming.{holds_on}
 use Rattle.vdr_vault.proofs.Stretching.{none_at, places_before, places_held, places_to_last, window_places}
-use Rattle.vdr_vault.proofs.SavePlaces.{before_last}
 
 -- Later events
 

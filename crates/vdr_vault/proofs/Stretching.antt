@@ -1,5 +1,5 @@
 -- What a query selects at places: as parts of it, of more records, of those that stand on a medium, and as the whole of a window.
-use Rattle.std.proofs.Common.{◌≡◌, ◌<◌, ◌≤◌, ◌⊎◌, inl, inr, ⊎_elim, ◌++◌, ◌&&◌, cond, ℕ, suc, Bool, true, false, nat_le, List, [], ◌∷◌, filter, slice_get, All, Contains, option_map, Option, Some, None, refl, sym, ap, ◌∙◌, subst, arith, append-nil, ◌+◌, min}
+use Rattle.std.proofs.Common.{◌≡◌, ◌<◌, ◌≤◌, ◌⊎◌, inl, inr, ⊎_elim, ◌++◌, ◌&&◌, cond, ℕ, suc, Bool, true, false, nat_le, List, [], ◌∷◌, filter, slice_get, Contains, option_map, Option, Some, refl, sym, ap, ◌∙◌, subst, arith, append-nil, ◌+◌, min}
 use Rattle.std.proofs.lemmas.Bool.{and_parts, and_from, cases_lt, le-leb, leb-true, lt-ltb, ltb-true}
 use Rattle.std.proofs.lemmas.List.Elements.{All-contains}
 use Rattle.std.proofs.lemmas.Option.{same_Some}

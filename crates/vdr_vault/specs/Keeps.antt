@@ -1,5 +1,5 @@
 -- What each call of a vault keeps, and what it answers, whatever becomes of it.
-use Rattle.std.specs.Prelude.{◌≡◌, ◌≢◌, ◌⊎◌, ◌↔◌, ◌<◌, ◌-◌, ℕ, suc, Bool, true, false, List, is_none, position, Option, Some, None, option_map, Result, Ok, Err, IfOk, IsErr, OnErr, OnOk}
+use Rattle.std.specs.Prelude.{◌≡◌, ◌≢◌, ◌⊎◌, ◌↔◌, ◌<◌, ◌-◌, ℕ, suc, Bool, true, false, List, length, is_none, position, Option, Some, None, option_map, Result, Ok, Err, IfOk, IsErr, OnErr, OnOk}
 use Rattle.vdr_terms.specs.Records.{Record, last}
 use Rattle.vdr_terms.specs.Queries.{Query}
 use Rattle.vdr_core.specs.Histories.{Event, Incident, Opening, live, with_slot}
@@ -54,6 +54,8 @@ pub record KeepsVault {tells tells_images : Type 0} (old new : VaultState) (befo
   pub config : new.config ≡ old.config
   -- the incidents are as before
   pub table : new.table ≡ old.table
+  -- there are as many rings
+  pub count : length new.rings ≡ length old.rings
   -- each ring is its medium's
   pub rings : AreRings new after.sizes
   -- the slots that were loaded and judged still are
@@ -69,19 +71,21 @@ pub record KeepsHistory (old new : VaultState) (sizes : List ℕ) : Type 0 where
   pub config : new.config ≡ old.config
   -- the ring on the capsule is as before
   pub capsule : ring_of new 0 ≡ ring_of old 0
+  -- there are as many rings
+  pub count : length new.rings ≡ length old.rings
   -- each ring is its medium's
   pub rings : AreRings new sizes
 
 -- The call wrote to the capsule and the long-term medium alone and read nothing. An error comes only of a fault.
-pub record WritesToBoth {M T E : Type 0} (media : MediaTells M) (failed : Bool) (old new : M) (result : Result T E) : Type 0 where
+pub record WritesToBoth {M T E : Type 0} (members : List ℕ) (media : MediaTells M) (failed : Bool) (old new : M) (result : Result T E) : Type 0 where
   -- the other media read as before
-  pub others : media.tells → SameElsewhere (media.disk old).reads (media.disk new).reads
+  pub others : media.tells → SameElsewhere members (media.disk old).reads (media.disk new).reads
   -- no medium changes its size
   pub sizes : (media.disk new).sizes ≡ (media.disk old).sizes
   -- nothing was read
   pub counts : media.bytes_read new ≡ media.bytes_read old
   -- no count of faults falls, and an error has its cause
-  pub cause : HasVaultCause failed (media.faults old) (media.faults new) result
+  pub cause : HasVaultCause members failed (media.faults old) (media.faults new) result
 
 -- The call wrote to the long-term medium alone, and so many bytes were read.
 pub record WritesToLongTerm {M : Type 0} (media : MediaTells M) (failed : Bool) (old new : M) (Reads : List ℕ → List ℕ → Type 0) (faulted : Type 0) : Type 0 where

@@ -6,18 +6,18 @@ use Rattle.vdr_core.specs.Histories.{Event, MayFollow, Opening}
 use Rattle.vdr_durability.specs.Shown.{given_with}
 use Rattle.vdr_outside.specs.Disk.{Disk, Image}
 use Rattle.vdr_config.specs.Configuration.{Configuration}
-use Rattle.vdr_media.specs.Formatted.{IsEmptyHistory}
-use Rattle.vdr_opening.specs.Media.{members, Contents, HoldsContents, nothing_on, opening_of}
+use Rattle.vdr_media.specs.Formatted.{IsEmptyHistory, members}
+use Rattle.vdr_opening.specs.Media.{members_with, Contents, HoldsContents, nothing_on, opening_of}
 use Rattle.vdr_vault.specs.Vaults.{ShowsHistory}
 
 -- What a first run begins with.
 abbrev pub first_opening : Configuration → (text : List ℕ) → Opening
-first_opening c text = opening_of (nothing_on c text)
+first_opening c text = opening_of (nothing_on 0 c text)
 
 -- The events of one run over these contents: each may come after those before it, and ticks never fall.
 pub record IsRun (x : Contents) (events : List Event) : Type 0 where
   pub follow : MayFollow (opening_of x) [] events
-  pub order : All (λ m. AreInOrder (given_with (opening_of x) events m)) members
+  pub order : All (λ m. AreInOrder (given_with (opening_of x) events m)) (members_with x.further)
 
 -- Media that were formatted with this configuration, and all that was done on them since: each run's events but those that its stop
 -- cut off.

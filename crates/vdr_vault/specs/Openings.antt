@@ -1,5 +1,5 @@
 -- What a stop leaves while media are opened.
-use Rattle.std.specs.Prelude.{◌≡◌, ◌⊎◌, ◌≤◌, ℕ, List, [], get_or, sum, All, Any, option_map, Result, Err, IfOk, OnOk, OnErr, IsErrOf, false, ⊤}
+use Rattle.std.specs.Prelude.{◌≡◌, ◌⊎◌, ◌<◌, ◌≤◌, ℕ, List, [], take, drop, get_or, sum, All, Any, option_map, Result, Err, IfOk, OnOk, OnErr, IsErrOf, false, ⊤}
 use Rattle.vdr_terms.specs.Records.{Record, last}
 use Rattle.vdr_durability.specs.Readings.{AreLevel, EndsMeet, next_after}
 use Rattle.vdr_outside.specs.Causes.{NoneFalls, Rose}
@@ -14,7 +14,7 @@ use Rattle.vdr_ring.specs.Keeping.{AreWhole}
 use Rattle.vdr_incident.specs.Tables.{HoldsTable}
 use Rattle.vdr_opening.specs.declared.refused.OpenRefused.{OpenRefused}
 use Rattle.vdr_opening.specs.declared.refused.OpenRefused.TheVariants.{Damaged, Fault as a_fault, NotFormatted}
-use Rattle.vdr_opening.specs.Media.{members, Contents, HoldsContents, HoldsParts, IsMedium, opening_of, reading_of}
+use Rattle.vdr_opening.specs.Media.{members_with, Contents, HoldsContents, HoldsParts, IsMedium, opening_of, reading_of}
 use Rattle.vdr_opening.specs.Refusals.{IsRefused}
 use Rattle.vdr_opening.specs.Answers.{HasOpenCause, IsMissing, OpenedState}
 use Rattle.vdr_vault.specs.Vaults.{AreJudged, AreRings, IsReadable, VaultState, ShowsHistory, Stands, of_stamp, ring_of, tick_utc}
@@ -25,7 +25,7 @@ abbrev pub opened_with : VaultState → List Record → (lacking : ℕ) → Open
 opened_with vault missing lacking = record { config = vault.config; rings = vault.rings; table = vault.table; missing = missing; lacking = lacking }
 
 -- No count of faults falls, and an error comes only where that of one of the media rose, and so their sum.
-pub record HasCauseOnBoth {T E : Type 0} (before now : List ℕ) (result : Result T E) : Type 0 where
+pub record HasCauseOnBoth {T E : Type 0} (members : List ℕ) (before now : List ℕ) (result : Result T E) : Type 0 where
   pub later : NoneFalls before now
   pub by_medium : OnErr result (Any (λ m. Rose (get_or before m 0) (get_or now m 0)) members)
   pub in_all : OnErr result (Rose (sum before) (sum now))
@@ -44,22 +44,24 @@ pub record GoesOnBehind (x : Contents) (vault : VaultState) : Type 0 where
 
 -- Opening appends nothing to medium m: it is the capsule, or both media end with the last batch.
 abbrev pub IsLeftAsRead : Contents → ℕ → Type 0
-IsLeftAsRead x m = (m ≡ 0) ⊎ AreLevel members (reading_of x)
+IsLeftAsRead x m = (m ≡ 0) ⊎ AreLevel (members_with x.further) (reading_of x)
 
 -- The ring on such a medium tells of these segments, as opening knows them.
 abbrev pub TellsOfParts : Contents → VaultState → Type 0
-TellsOfParts x vault = All (λ m. IsLeftAsRead x m → TellsBy (ring_of vault m).slots (x.placed m) (ring_of vault m).directory) members
+TellsOfParts x vault = All (λ m. IsLeftAsRead x m → TellsBy (ring_of vault m).slots (x.placed m) (ring_of vault m).directory) (members_with x.further)
 
--- Of media with these contents, sound or not, nothing else was written than the batch that the long-term medium lacks: that has whole
--- batches of before, all but those of one segment at the most, with the missing one behind them or without.
+-- Of media with these contents, sound or not, nothing else was written than the batch that the media from a number on lack: each of
+-- those has whole batches of before, all but those of one segment at the most, with the missing one behind them or without.
 pub record EndsWithin (x : Contents) (image : Image) : Type 0 where
-  pub capsule : IsMedium 0 x.config x.text (x.placed 0) (content image 0)
-  pub now : List Placed
-  pub long_term : IsMedium 1 x.config x.text now (content image 1)
+  pub now : ℕ → List Placed
+  pub media : All (λ m. IsMedium m x.config x.text (now m) (content image m)) (members_with x.further)
   pub table : HoldsTable x.config.incident_slots x.table (content image 1)
   pub missing : List Record
-  pub lacks : IsMissing missing 1 (reading_of x)
-  pub whole : AreWhole (x.placed 1) now missing
+  pub lacking : ℕ
+  pub behind : 0 < lacking
+  pub lacks : IsMissing (members_with x.further) missing lacking (reading_of x)
+  pub kept : All (λ m. now m ≡ x.placed m) (take lacking (members_with x.further))
+  pub whole : All (λ m. AreWhole (x.placed m) (now m) missing) (drop lacking (members_with x.further))
 
 module _ {tells tells_images : Type 0} where
   -- Nothing was written: a stop left what a stop before the call might have left.
@@ -78,9 +80,9 @@ module _ {tells tells_images : Type 0} where
   -- Of media with these contents, of which nothing is unsynced, opening leaves at each moment what shows them, and at most writes what
   -- one of them lacks.
   pub record OpensMeanwhile (x : Contents) (old new : Disk tells tells_images) : Type 0 where
-    pub level : AreLevel members (reading_of x) → Unchanged old new
-    pub within : EndsMeet members (reading_of x) → AtEachMoment old new (EndsWithin x)
-    pub moments : EndsMeet members (reading_of x) → AreSound x → AtEachMoment old new (ShowsHistory (opening_of x) [])
+    pub level : AreLevel (members_with x.further) (reading_of x) → Unchanged old new
+    pub within : EndsMeet (members_with x.further) (reading_of x) → AtEachMoment old new (EndsWithin x)
+    pub moments : EndsMeet (members_with x.further) (reading_of x) → AreSound x → AtEachMoment old new (ShowsHistory (opening_of x) [])
 
   -- A sync failed.
   pub record EndsBeforeSync {T : Type 0} (old new : Disk tells tells_images) (result : Result T OpenRefused) : Type 0 where
@@ -93,8 +95,8 @@ module _ {tells tells_images : Type 0} where
   -- What opening writes of media with these contents, sound or not: nothing where both end with the last batch, and else at most the
   -- batch that the long-term medium lacks.
   pub record WritesMissing (x : Contents) (old new : Disk tells tells_images) : Type 0 where
-    pub level : AreLevel members (reading_of x) → LeavesAll old new × (new.reads ≡ old.reads)
-    pub missing : EndsMeet members (reading_of x) → AtEachMoment old new (λ i. old.now i ⊎ EndsWithin x i)
+    pub level : AreLevel (members_with x.further) (reading_of x) → LeavesAll old new × (new.reads ≡ old.reads)
+    pub missing : EndsMeet (members_with x.further) (reading_of x) → AtEachMoment old new (λ i. old.now i ⊎ EndsWithin x i)
 
   -- While the missing batch is appended a stop leaves media that show what was opened, and then the vault stands over it.
   pub record Reconciles (x : Contents) (vault : VaultState) (old new : Disk tells tells_images) (result : Result ⊤ Fault) : Type 0 where
@@ -107,13 +109,13 @@ module _ {tells tells_images : Type 0} where
     -- where the media are sound the vault stands on them
     pub opened : IfOk result (λ vault. (x : Contents) → tells → HoldsContents old.reads x → AreSound x → (placed : ℕ → List Placed) × Stands (opening_of x) [] vault placed new)
     -- the media were formatted, and what the vault tells is what was read of them
-    pub parts : IfOk result (λ vault. tells → IsFormatted old.reads × (x : Contents) × HoldsParts old.reads x × EndsMeet members (reading_of x) × IsToldBy x vault)
+    pub parts : IfOk result (λ vault. tells → IsFormatted old.reads × (x : Contents) × HoldsParts old.reads x × EndsMeet (members_with x.further) (reading_of x) × IsToldBy x vault)
     -- of a medium to which opening appended nothing, the ring tells of what was read
     pub known : IfOk result (λ vault. (x : Contents) → tells → HoldsParts old.reads x → TellsOfParts x vault)
     -- where they are legible it is what they hold
-    pub contents : IfOk result (λ vault. (x : Contents) → tells → HoldsContents old.reads x → EndsMeet members (reading_of x) × IsToldBy x vault)
+    pub contents : IfOk result (λ vault. (x : Contents) → tells → HoldsContents old.reads x → EndsMeet (members_with x.further) (reading_of x) × IsToldBy x vault)
     -- where both end with the last batch the vault can be read
-    pub readable : IfOk result (λ vault. (x : Contents) → tells → HoldsContents old.reads x → AreLevel members (reading_of x) → IsReadable (opening_of x) [] vault x.placed new)
+    pub readable : IfOk result (λ vault. (x : Contents) → tells → HoldsContents old.reads x → AreLevel (members_with x.further) (reading_of x) → IsReadable (opening_of x) [] vault x.placed new)
     -- no write has failed
     pub works : IfOk result (λ vault. vault.failed ≡ false)
     -- the slot that each ring has loaded was judged
@@ -139,4 +141,4 @@ pub record ReachesLongTerm {M T : Type 0} (media : MediaTells M) (old new : M) (
   -- no medium changes its size
   pub sizes : (media.disk new).sizes ≡ (media.disk old).sizes
   -- no count of faults falls, and a fault has its cause
-  pub cause : HasOpenCause (media.faults old) (media.faults new) result
+  pub cause : HasOpenCause (members_with 0) (media.faults old) (media.faults new) result

@@ -3,12 +3,12 @@ use Rattle.std.specs.Prelude.{◌≡◌, ◌≤◌, ◌⊎◌}
 use Rattle.vdr_durability.specs.Readings.{EndsMeet}
 use Rattle.vdr_outside.specs.Disk.{Disk, Image}
 use Rattle.vdr_media.specs.Formatted.{IsUnformatted}
-use Rattle.vdr_opening.specs.Media.{members, Contents, HoldsContents, reading_of}
+use Rattle.vdr_opening.specs.Media.{members_with, Contents, HoldsContents, reading_of}
 use Rattle.vdr_vault.specs.Regularity.{AreSound}
 
 -- Not formatted; or legible with ends that meet, and sound.
 abbrev pub IsOurs : Image → Type 0
-IsOurs image = IsUnformatted image ⊎ ((x : Contents) × HoldsContents image x × EndsMeet members (reading_of x) × AreSound x)
+IsOurs image = IsUnformatted image ⊎ ((x : Contents) × HoldsContents image x × EndsMeet (members_with x.further) (reading_of x) × AreSound x)
 
 module _ {tells tells_images : Type 0} where
   -- Each image that a stop now may leave is.

@@ -1,5 +1,5 @@
 -- A batch on its way to the media of a vault, one after another.
-use Rattle.std.specs.Prelude.{◌≡◌, ◌⊎◌, ◌≤◌, ◌<◌, ◌==◌, if◌then◌else◌, ℕ, Bool, List, [], get_or, Result, OnErr, OnOk, ⊤}
+use Rattle.std.specs.Prelude.{◌≡◌, ◌⊎◌, ◌≤◌, ◌<◌, ◌==◌, if◌then◌else◌, ℕ, Bool, List, [], get_or, length, Result, OnErr, OnOk, ⊤}
 use Rattle.vdr_terms.specs.Records.{Record}
 use Rattle.vdr_durability.specs.Retention.{Pin}
 use Rattle.vdr_outside.specs.declared.fault.Fault.{Fault}
@@ -39,18 +39,19 @@ module _ {tells tells_images : Type 0} where
     pub moments : AtEachMoment before after (Passes
         (λ k. Lacks ordered (ring_at old k) (pins_at k pins) (placed k) first records (content before.reads k))
         (λ k. Has ordered (ring_at old k) (pins_at k pins) (placed k) first records (content before.reads k))
-        from 2 before.now)
-    pub done : OnOk result ((k : ℕ) → from ≤ k → k < 2 → IsGiven (ring_at old k) (ring_at new k) (pins_at k pins) (placed k) first records after)
+        from (length old) before.now)
+    pub done : OnOk result ((k : ℕ) → from ≤ k → k < length old → IsGiven (ring_at old k) (ring_at new k) (pins_at k pins) (placed k) first records after)
 
 -- What a call that writes to the media from a number on keeps, whatever becomes of it.
 pub record KeepsBeside {M : Type 0} (media : MediaTells M) (from : ℕ) (old new : List RingState) (before after : M) : Type 0 where
-  -- each ring is its medium's, and those below are as before
+  -- there are as many rings, each is its medium's, and those below are as before
+  pub size : length new ≡ length old
   pub rings : (c : Configuration) → AreRingsOf c (media.disk before).sizes old → AreRingsOf c (media.disk after).sizes new
   pub untouched : (k : ℕ) → k < from → ring_at new k ≡ ring_at old k
   -- nothing before the slots was touched
   pub fronts : media.tells → (k : ℕ) → SameFront (content (media.disk before).reads k) (content (media.disk after).reads k)
   -- the other media read as before
-  pub others : media.tells → (k : ℕ) → (k < from) ⊎ (2 ≤ k) → content (media.disk after).reads k ≡ content (media.disk before).reads k
+  pub others : media.tells → (k : ℕ) → (k < from) ⊎ (length old ≤ k) → content (media.disk after).reads k ≡ content (media.disk before).reads k
   -- no medium changes its size, nothing was read, and no count of faults falls
   pub sizes : (media.disk after).sizes ≡ (media.disk before).sizes
   pub counts : media.bytes_read after ≡ media.bytes_read before

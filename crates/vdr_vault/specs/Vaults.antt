@@ -19,10 +19,10 @@ use Rattle.vdr_ring.specs.Rings.{RingState}
 use Rattle.vdr_ring.specs.Rings as rings
 use Rattle.vdr_incident.specs.Tables.{HoldsTable}
 use Rattle.vdr_opening.specs.Settings.{settings_of}
-use Rattle.vdr_opening.specs.Media.{members, Contents, HasFront, AreThere, Reads}
+use Rattle.vdr_opening.specs.Media.{further_in, Contents, HasFront, AreThere, Reads}
 use Rattle.vdr_durability.specs.Soundness.{IsUnbroken}
 use Rattle.vdr_vault.specs.Regularity.{AreSound}
-use Rattle.vdr_opening.specs.Answers.{AreJudgedOn, AreRingsOf, ring_at}
+use Rattle.vdr_opening.specs.Answers.{AreJudgedOn, AreRingsOf, further_on, members_on, ring_at}
 use Rattle.vdr_ring.specs.Openings.{IsRingOf}
 use Rattle.vdr_ring.specs.Whole.{KeepsAll, is_filled}
 
@@ -62,6 +62,7 @@ AreRings vault sizes = AreRingsOf vault.config sizes vault.rings
 -- What the media of a vault hold with these segments and these incidents.
 abbrev pub contents_of : Opening → VaultState → (ℕ → List Placed) → List (Option Incident) → Contents
 contents_of opening vault placed table = record {
+  further = further_on vault.rings;
   config = vault.config;
   text = opening.settings.text;
   placed = placed;
@@ -109,13 +110,13 @@ module _ {tells tells_images : Type 0} where
 
   -- Medium m of a recording is damaged at this offset: one of its slots is not intact there.
   abbrev pub IsDamagedOn : Configuration → Disk tells tells_images → (m offset : ℕ) → Type 0
-  IsDamagedOn c disk m offset = (m < length members) × HasDamage c.segment (slots_in (sizes_of c) (get_or disk.sizes m 0)) (content disk.reads m) offset
+  IsDamagedOn c disk m offset = (m < 2) × HasDamage c.segment (slots_in (sizes_of c) (get_or disk.sizes m 0)) (content disk.reads m) offset
 
   -- A vault whose media can be read as what these events left, regular or not.
   pub record IsReadable (opening : Opening) (events : List Event) (vault : VaultState) (placed : ℕ → List Placed) (disk : Disk tells tells_images) : Type 0 where
     pub settings : opening.settings ≡ settings_of vault.config opening.settings.text
     pub working : vault.failed ≡ false
-    pub media : All (λ m. IsReadableAt opening events m (ring_of vault m) (placed m) disk) members
+    pub media : All (λ m. IsReadableAt opening events m (ring_of vault m) (placed m) disk) (members_on vault.rings)
     pub incidents_are : vault.table ≡ incidents opening events
 
   -- A vault at rest after these events: nothing is unsynced, both media end with the last batch, and all that was recorded and
@@ -123,10 +124,12 @@ module _ {tells tells_images : Type 0} where
   pub record Stands (opening : Opening) (events : List Event) (vault : VaultState) (placed : ℕ → List Placed) (disk : Disk tells tells_images) : Type 0 where
     pub settings : opening.settings ≡ settings_of vault.config opening.settings.text
     pub working : vault.failed ≡ false
-    pub media : All (λ m. HoldsHistory opening events vault.config m (ring_of vault m) (placed m) disk) members
-    pub level : AreLevel members (reading_with opening.settings.text placed vault.table)
+    pub media : All (λ m. HoldsHistory opening events vault.config m (ring_of vault m) (placed m) disk) (members_on vault.rings)
+    pub level : AreLevel (members_on vault.rings) (reading_with opening.settings.text placed vault.table)
     pub incidents_are : vault.table ≡ incidents opening events
     pub slots : length vault.table ≡ vault.config.incident_slots
+    pub version : (i : Image) → disk.now i → further_on vault.rings ≡ further_in i
+    pub read_version : tells → further_on vault.rings ≡ further_in disk.reads
     pub table : tells → HoldsTable vault.config.incident_slots vault.table (content disk.reads 1)
     pub there : AreThere vault.table (placed 1)
     pub goes_on : vault.next_place ≡ next_place opening events

@@ -1,5 +1,5 @@
 -- What is visited of the records that a query selects.
-use Rattle.std.specs.Prelude.{◌≡◌, ℕ, List, Option, Result, Ok, Err, ⊤}
+use Rattle.std.specs.Prelude.{ℕ, List, Option, Result, ⊤}
 use Rattle.vdr_terms.specs.Records.{Record}
 use Rattle.vdr_terms.specs.Queries.{Query}
 use Rattle.vdr_core.specs.Histories.{Event, Opening}

@@ -32,16 +32,16 @@ pub(crate) fn append_from<M: Media>(
     records: &[Record],
     pins: &Pins,
 ) -> Result<(), Fault>
-    requires few { from ≤ 2 }
+    requires few { from ≤ length rings.old }
     requires rings { (c : Configuration) × AreRingsOf c (M.disk media.old).sizes rings.old × (64 + batch_size records.now + 1 ≤ c.segment) }
     requires some { 0 < length records.now }
     ensures passed { (ordered : Bool) (sizes : Sizes) (placed : ℕ → List Placed) (first : ℕ) (all : ℕ → List ARecord) → M.tells
-        → ((k : ℕ) → from ≤ k → k < 2 → Waits ordered sizes (ring_at rings.old k) (pins_at k pins.now) (placed k) first (all k) records.now (M.disk media.old))
+        → ((k : ℕ) → from ≤ k → k < length rings.old → Waits ordered sizes (ring_at rings.old k) (pins_at k pins.now) (placed k) first (all k) records.now (M.disk media.old))
         → Passed ordered from rings.old rings.new pins.now placed first records.now (M.disk media.old) (M.disk media.new) result }
     ensures keeps { KeepsBeside M.Media from rings.old rings.new media.old media.new }
     ensures judged { AreJudgedOn rings.old (M.disk media.old) → AreJudgedOn rings.new (M.disk media.new) }
     ensures counts { M.bytes_read media.new ≡ M.bytes_read media.old }
-    ensures cause { HasCauseFrom from 2 (M.faults media.old) (M.faults media.new) result }
+    ensures cause { HasCauseFrom from (length rings.old) (M.faults media.old) (M.faults media.new) result }
 {
     let none = Pins::new();
     for m in from..rings.len() {

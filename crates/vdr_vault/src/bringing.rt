@@ -2,7 +2,7 @@
 //
 // Missing summaries are written by the first commit behind an opening, before it appends, so that commands that only
 // read write nothing. A medium to which opening appended is brought up behind a later one.
-ghost use Rattle.std.specs.Prelude.{◌<◌, ℕ, List};
+ghost use Rattle.std.specs.Prelude.{◌<◌, ℕ, List, length};
 ghost use Rattle.vdr_config.specs.Configuration.{Configuration};
 ghost use Rattle.vdr_directory.specs.Sequence.{Placed};
 ghost use Rattle.vdr_ring.specs.Rings.{Reads};
@@ -17,11 +17,11 @@ use vdr_ring::Ring;
 /// called.
 pub(crate) fn bring_up_all<M: Media>(rings: &mut [Ring], media: &mut M) -> Result<(), Fault>
     requires rings { (c : Configuration) × AreRingsOf c (M.disk media.old).sizes rings.old }
-    ensures brought { (placed : ℕ → List Placed) → M.tells → ((k : ℕ) → k < 2 → Reads (ring_at rings.old k) (placed k) (M.disk media.old))
+    ensures brought { (placed : ℕ → List Placed) → M.tells → ((k : ℕ) → k < length rings.old → Reads (ring_at rings.old k) (placed k) (M.disk media.old))
         → BringsAllUp rings.old rings.new placed (M.disk media.old) (M.disk media.new) result }
     ensures keeps { KeepsBeside M.Media 0 rings.old rings.new media.old media.new }
     ensures judged { AreJudgedOn rings.old (M.disk media.old) → AreJudgedOn rings.new (M.disk media.new) }
-    ensures cause { HasCauseFrom 0 2 (M.faults media.old) (M.faults media.new) result }
+    ensures cause { HasCauseFrom 0 (length rings.old) (M.faults media.old) (M.faults media.new) result }
 {
     for m in 0..rings.len() {
         rings[m].bring_up(media)?;

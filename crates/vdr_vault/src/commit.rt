@@ -6,6 +6,8 @@ ghost use Rattle.vdr_core.specs.Histories.{Event, Opening};
 ghost use Rattle.vdr_core.specs.Histories.Act.{Commit};
 ghost use Rattle.vdr_core.specs.Taken.{Captured};
 ghost use Rattle.vdr_directory.specs.Sequence.{Placed};
+ghost use Rattle.vdr_media.specs.Formatted.{members_with};
+ghost use Rattle.vdr_opening.specs.Answers.{members_on};
 ghost use Rattle.vdr_vault.specs.Vaults.{AreRings, Stands, working, working_from};
 ghost use Rattle.vdr_vault.specs.Calls.{Commits, HasVaultCause, MayCommit, SameElsewhere};
 ghost use Rattle.vdr_vault.specs.Keeps.{GoesOn, KeepsVault, StopsAtFault, WritesToBoth};
@@ -23,16 +25,16 @@ impl Vault {
         requires some { 0 < length records.now }
         requires short { records_size records.now ≤ self.old.config.batch }
         ensures commits { (opening : Opening) (events : List Event) (e : Event) (taken : List Captured) (placed : ℕ → List Placed) → M.tells
-            → e.act ≡ Commit records.now taken → Stands opening events (working self.old) placed (M.disk media.old) → MayCommit opening events self.old.config placed records.now
+            → e.act ≡ Commit records.now taken → Stands opening events (working self.old) placed (M.disk media.old) → MayCommit (members_on self.old.rings) opening events self.old.config placed records.now
             → Commits opening events e records.now placed (working_from (last records.now) self.new) (M.disk media.old) (M.disk media.new) result }
         ensures failed { self.new.failed ≡ self.old.failed }
         ensures next_place { self.new.next_place ≡ self.old.next_place }
         ensures last { self.new.last ≡ self.old.last }
         ensures keeps { KeepsVault self.old self.new (M.disk media.old) (M.disk media.new) }
-        ensures others { M.tells → SameElsewhere (M.disk media.old).reads (M.disk media.new).reads }
+        ensures others { M.tells → SameElsewhere (members_on self.old.rings) (M.disk media.old).reads (M.disk media.new).reads }
         ensures sizes { (M.disk media.new).sizes ≡ (M.disk media.old).sizes }
         ensures counts { M.bytes_read media.new ≡ M.bytes_read media.old }
-        ensures cause { HasVaultCause false (M.faults media.old) (M.faults media.new) result }
+        ensures cause { HasVaultCause (members_on self.old.rings) false (M.faults media.old) (M.faults media.new) result }
     {
         let pins = self.pins();
         bring_up_all(&mut self.rings, media)?;
@@ -53,12 +55,12 @@ impl Vault {
         requires some { 0 < length records.now }
         requires short { records_size records.now ≤ self.old.config.batch }
         ensures commits { (opening : Opening) (events : List Event) (e : Event) (taken : List Captured) (placed : ℕ → List Placed) → M.tells
-            → e.act ≡ Commit records.now taken → Stands opening events self.old placed (M.disk media.old) → MayCommit opening events self.old.config placed records.now
+            → e.act ≡ Commit records.now taken → Stands opening events self.old placed (M.disk media.old) → MayCommit (members_on self.old.rings) opening events self.old.config placed records.now
             → Commits opening events e records.now placed self.new (M.disk media.old) (M.disk media.new) result }
         ensures failing { StopsAtFault self.old.failed self.new.failed self.old self.new media.old media.new result }
         ensures goes_on { GoesOn self.old self.new records.now result }
         ensures keeps { KeepsVault self.old self.new (M.disk media.old) (M.disk media.new) }
-        ensures writes { WritesToBoth M.Media self.old.failed media.old media.new result }
+        ensures writes { WritesToBoth (members_with 0) M.Media self.old.failed media.old media.new result }
     {
         if self.failed {
             return Err(Fault);

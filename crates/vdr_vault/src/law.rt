@@ -9,7 +9,7 @@ ghost use Rattle.vdr_terms.specs.Queries.{Query};
 ghost use Rattle.vdr_directory.specs.Knowns.{AreInOrderBy};
 ghost use Rattle.vdr_directory.specs.Sequence.{Placed};
 ghost use Rattle.vdr_directory.specs.Telling.{TellsBy};
-ghost use Rattle.vdr_opening.specs.Media.{Contents, HoldsContents, members, nothing_on, reading_of};
+ghost use Rattle.vdr_opening.specs.Media.{Contents, HoldsContents, members_with, nothing_on, reading_of};
 ghost use Rattle.vdr_vault.specs.Plays.{KnowsToMeet, ring_for};
 ghost use Rattle.vdr_vault.specs.Regularity.{AreSound};
 ghost use Rattle.vdr_vault.specs.Vaults.{VaultState, ShowsHistory, Stands};
@@ -30,8 +30,8 @@ pub fn law_of_vaults<M: Media>(old: &M, new: &M)
 
 /// Media that were just formatted are sound. Soundness is a fact of an image: of what it holds, all is sound or nothing is.
 pub fn law_of_sound_media()
-    ensures empty { (c : Configuration) (text : List ℕ) → AreSound (nothing_on c text) }
-    ensures same { (image : Image) (x y : Contents) → HoldsContents image x → HoldsContents image y → EndsMeet members (reading_of x) × AreSound x → EndsMeet members (reading_of y) × AreSound y }
+    ensures empty { (c : Configuration) (text : List ℕ) → AreSound (nothing_on 0 c text) }
+    ensures same { (image : Image) (x y : Contents) → HoldsContents image x → HoldsContents image y → EndsMeet (members_with x.further) (reading_of x) × AreSound x → EndsMeet (members_with y.further) (reading_of y) × AreSound y }
 {}
 
 /// A ring that tells of the segments of a query's medium, as opening knows them, knows just those of them to meet the query that do.

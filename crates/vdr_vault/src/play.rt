@@ -9,7 +9,7 @@ ghost use Rattle.vdr_entry.specs.Queries.{asked, asked_medium};
 ghost use Rattle.vdr_directory.specs.Sequence.{Placed, all_records};
 ghost use Rattle.vdr_directory.specs.Holds.{Tells};
 ghost use Rattle.vdr_ring.specs.Rings.{Reads};
-ghost use Rattle.vdr_opening.specs.Media.{members};
+ghost use Rattle.vdr_opening.specs.Answers.{members_on};
 ghost use Rattle.vdr_vault.specs.Vaults.{AreRings, IsReadable, VaultState, ring_of};
 ghost use Rattle.vdr_index.specs.Indexes.{span_as};
 ghost use Rattle.vdr_ring.specs.Budgets.{Spends};
@@ -62,7 +62,7 @@ impl Vault {
     // What the query's medium comes to. None where it has no record, or the incident is not live.
     fn span_of(&self, medium: Medium) -> Option<Span>
         ensures kept { option_map span_as result ≡ span_by self.now (asked_medium medium) }
-        ensures last { (placed : ℕ → List Placed) → All (λ m. Tells (ring_of self.now m).slots (placed m) (ring_of self.now m).directory) members
+        ensures last { (placed : ℕ → List Placed) → All (λ m. Tells (ring_of self.now m).slots (placed m) (ring_of self.now m).directory) (members_on self.now.rings)
             → option_map span_as result ≡ span_in self.now placed (asked_medium medium) }
     {
         if let Medium::Incident(id) = medium {

@@ -30,7 +30,7 @@ pub struct Vault {
 
 impl Model for Vault {
     ghost use Rattle.std.specs.Prelude.{◌≡◌, length};
-    ghost use Rattle.vdr_opening.specs.Media.{members};
+    ghost use Rattle.vdr_media.specs.Formatted.{members};
     ghost use Rattle.vdr_vault.specs.Vaults.{VaultState};
 
     ghost Value = { VaultState };

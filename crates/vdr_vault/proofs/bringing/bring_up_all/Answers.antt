@@ -1,16 +1,15 @@
-use Rattle.std.proofs.Common.{◌<◌, refl, arith}
+use Rattle.std.proofs.Common.{refl, arith}
 use Rattle.std.proofs.lemmas.Result.{IfOk-from_err}
 use Rattle.vdr_outside.proofs.Counts.{none_fell}
 use Rattle.vdr_segment.proofs.Fronts.{front_same}
 use Rattle.vdr_vault.proofs.Brought.{brings_none, brings_step, cause_here, judged_on, keeps_on, moments_on}
-use Rattle.vdr_vault.proofs.Members.{in_range}
 use Rattle.vdr_vault.proofs.Passed.{its_ring}
 use Rattle.vdr_vault.proofs.bringing.bring_up_all.Goals as goal
 
 pub loop-m-init : goal.loop-m-init
 loop-m-init g c = record {
   high = omega arith;
-  keeps = record { rings = λ d are. are; untouched = λ k lt. refl; fronts = λ told k. front_same _; others = λ told k out. refl; sizes = refl; counts = refl; later = none_fell _ };
+  keeps = record { rings = λ d are. are; size = refl; untouched = λ k lt. refl; fronts = λ told k. front_same _; others = λ told k out. refl; sizes = refl; counts = refl; later = none_fell _ };
   judged = λ judged. judged;
   brings = λ placed told reads. brings_none c.args.rings.now placed (g.M.Media.disk c.args.media.now) c.requires.rings.1 reads;
 }
@@ -52,13 +51,12 @@ pub returns-clause-brought : goal.returns-clause-brought
 returns-clause-brought g c placed told reads =
     let brings = c.loop-m.invariant.brings placed told reads in
     let over = c.loop-m-test.false in
-    let count = c.requires.rings.1.count in
-    record { moments = brings.moments; done = λ k lt. brings.brought k lt (omega (arith, over, count, lt)) }
+    record { moments = brings.moments; done = λ k lt. brings.brought k lt (omega (arith, over, lt)) }
 
 pub loop-m-preserved : goal.loop-m-preserved
 loop-m-preserved g c =
     let call = c.bring_up.ensures in
-    let high : c.loop-m.m < 2 = in_range c.requires.rings.1 c.loop-m-test.true in
+    let high = c.loop-m-test.true in
     record {
       high = omega (arith, high);
       keeps = keeps_on g.M.Media c.loop-m.m c.args.rings.now c.loop-m.rings c.loop-m-test.true c.index-rings-m.result c.args.media.now c.loop-m.media c.requires.rings.1 c.loop-m.invariant.keeps

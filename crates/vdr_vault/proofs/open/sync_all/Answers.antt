@@ -3,11 +3,11 @@ use Rattle.vdr_outside.specs.Disk.{Durable}
 use Rattle.vdr_vault.proofs.OpenMoments.{cause_of_call, cause_of_error}
 use Rattle.vdr_vault.proofs.Passed.{upto}
 use Rattle.vdr_vault.proofs.open.sync_all.Goals as goal
-use Rattle.vdr_media.proofs.Two.{any_at}
+use Rattle.vdr_media.proofs.Members.{any_at}
 
 pub returns-in_err-sync-clause-cause : goal.returns-in_err-sync-clause-cause
-returns-in_err-sync-clause-cause g c = cause_of_error _ _ _ c.sync.result _
-    (cause_of_call c.loop-m.m _ _ _ c.sync.result (λ P here. any_at P c.loop-m.m c.loop-m-test.true here) c.loop-m.invariant.later c.sync.ensures.cause) c.in_err-sync.was
+returns-in_err-sync-clause-cause g c = cause_of_error _ _ _ _ c.sync.result _
+    (cause_of_call _ c.loop-m.m _ _ _ c.sync.result (λ P here. any_at P 0 c.loop-m.m c.loop-m-test.true here) c.loop-m.invariant.later c.sync.ensures.cause) c.in_err-sync.was
 
 pub loop-m-preserved : goal.loop-m-preserved
 loop-m-preserved g c = record {

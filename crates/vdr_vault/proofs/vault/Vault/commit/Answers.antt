@@ -1,9 +1,9 @@
-use Rattle.std.proofs.Common.{false, refl, sym, ap, ◌∙◌, w64, arith}
+use Rattle.std.proofs.Common.{false, length, refl, sym, subst, ap, ◌∙◌, w64, arith}
 use Rattle.std.proofs.lemmas.Int.{ints, to_z-of_z}
 use Rattle.std.proofs.lemmas.Result.{IfOk-from_err}
 use mir.Val.{SFits}
 use Rattle.vdr_terms.specs.Records.{Record}
-use Rattle.vdr_vault.specs.Vaults.{VaultState}
+use Rattle.vdr_vault.specs.Vaults.{AreJudged, AreRings, VaultState}
 use Rattle.vdr_vault.proofs.CommitAll.{gone_on, told_last, told_next}
 use Rattle.vdr_vault.proofs.Refusals.{stands_so}
 use Rattle.vdr_vault.proofs.vault.Vault.commit.Goals as goal
@@ -46,7 +46,7 @@ returns-clause-goes_on g c =
 pub returns-in_err-append_to_all-clause-keeps : goal.returns-in_err-append_to_all-clause-keeps
 returns-in_err-append_to_all-clause-keeps g c =
     let kept = c.append_to_all.ensures.keeps in
-    rw (sym c.self.view_is) (record { config = kept.config; table = kept.table; rings = kept.rings; judged = kept.judged })
+    rw (sym c.self.view_is) (record { config = kept.config; table = kept.table; count = kept.count; rings = kept.rings; judged = kept.judged })
 
 pub returns-clause-keeps : goal.returns-clause-keeps
 returns-clause-keeps g c =
@@ -54,6 +54,7 @@ returns-clause-keeps g c =
     rw (sym c.self.view_is) (record {
       config = ap (λ (s : VaultState). s.config) c.self-2.view_is ∙ kept.config;
       table = ap (λ (s : VaultState). s.table) c.self-2.view_is ∙ kept.table;
-      rings = rw (sym c.self-2.view_is) at kept.rings;
-      judged = rw (sym c.self-2.view_is) at kept.judged;
+      count = ap (λ (s : VaultState). length s.rings) c.self-2.view_is ∙ kept.count;
+      rings = subst (λ (s : VaultState). AreRings s (g.M.Media.disk c.append_to_all.new.media).sizes) (sym c.self-2.view_is) kept.rings;
+      judged = λ judged. subst (λ (s : VaultState). AreJudged s (g.M.Media.disk c.append_to_all.new.media)) (sym c.self-2.view_is) (kept.judged judged);
     })

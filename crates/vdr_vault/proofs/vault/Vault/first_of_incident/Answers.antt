@@ -73,3 +73,8 @@ pub returns-clause-rings : goal.returns-clause-rings
 returns-clause-rings g c =
     rings_still 1 c.args.self.now c.step_on.new.self (g.M.Media.disk c.args.media.now) (g.M.Media.disk c.step_on.new.media) c.step_on.ensures.vault
     c.step_on.ensures.keeps.read c.requires.rings
+
+pub returns-in_err-step_on-clause-rings : goal.returns-in_err-step_on-clause-rings
+returns-in_err-step_on-clause-rings g c =
+    rings_still 1 c.args.self.now c.step_on.new.self (g.M.Media.disk c.args.media.now) (g.M.Media.disk c.step_on.new.media) c.step_on.ensures.vault
+    c.step_on.ensures.keeps.read c.requires.rings

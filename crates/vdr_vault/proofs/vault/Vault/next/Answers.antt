@@ -101,4 +101,4 @@ returns-clause-spends g c =
     spends_for query c.args.self.now c.step_on.new.self (span_as c.in-Some.span) c.args.cursor.now.standing c.step_on.new.cursor.standing
     (g.M.Media.bytes_read c.args.media.now)
     (g.M.Media.bytes_read c.step_on.new.media) c.step_on.result (sym c.in-Some.ensures.kept) (rw c.number_of.ensures.number at c.step_on.ensures.vault)
-    (ring_is c.requires.rings (medium_of query.medium) member).medium keeps.spends
+    (ring_is c.requires.rings (medium_of query.medium) (let two = c.requires.rings.two in omega (arith, member, two))).medium keeps.spends

@@ -5,7 +5,7 @@ use Rattle.vdr_outside.specs.Disk.{Durable, Image}
 use Rattle.vdr_outside.proofs.Moments.{moments_and_reads, moments_weaken}
 use Rattle.vdr_media.specs.Formatted.{IsFormatted, IsUnformatted}
 use Rattle.vdr_directory.specs.Sequence.{Placed}
-use Rattle.vdr_opening.specs.Media.{members, Contents, HoldsContents, HoldsParts, opening_of, reading_of}
+use Rattle.vdr_opening.specs.Media.{members_in, members_with, Contents, HoldsContents, HoldsParts, opening_of, reading_of}
 use Rattle.vdr_opening.specs.Refusals.{IsRefused}
 use Rattle.vdr_vault.specs.Vaults.{IsReadable, VaultState, ShowsHistory, Stands}
 use Rattle.vdr_vault.specs.Openings.{IsToldBy, TellsOfParts}
@@ -17,7 +17,7 @@ use Rattle.vdr_vault.proofs.vault.Vault.open.Goals as goal
 
 -- what was read of the media with this image, and the vault tells of it
 abbrev HasParts : Image → VaultState → Type 0
-HasParts image vault = IsFormatted image × (x : Contents) × HoldsParts image x × EndsMeet members (reading_of x) × IsToldBy x vault
+HasParts image vault = IsFormatted image × (x : Contents) × HoldsParts image x × EndsMeet (members_with x.further) (reading_of x) × IsToldBy x vault
 
 pub returns-clause-moments : goal.returns-clause-moments
 returns-clause-moments g c x told holds meet regular = inr (goes_on_synced (ShowsHistory (opening_of x) []) (g.M.Media.disk c.args.media.now) (g.M.Media.disk c.sync_all.new.media) (g.M.Media.disk c.open_synced.new.media)
@@ -45,7 +45,7 @@ returns-in_default-clause-missing g c x told holds = record {
 pub returns-clause-opened : goal.returns-clause-opened
 returns-clause-opened g c = record {
   opened = IfOk-weaker c.open_synced.result
-      (λ vault. (x : Contents) → g.M.Media.tells → All (λ m. Durable m (g.M.Media.disk c.sync_all.new.media)) members → HoldsContents (g.M.Media.disk c.sync_all.new.media).reads x → AreSound x
+      (λ vault. (x : Contents) → g.M.Media.tells → All (λ m. Durable m (g.M.Media.disk c.sync_all.new.media)) (members_in (g.M.Media.disk c.sync_all.new.media).reads) → HoldsContents (g.M.Media.disk c.sync_all.new.media).reads x → AreSound x
       → (placed : ℕ → List Placed) × Stands (opening_of x) [] vault placed (g.M.Media.disk c.open_synced.new.media))
       (λ vault. (x : Contents) → g.M.Media.tells → HoldsContents (g.M.Media.disk c.args.media.now).reads x → AreSound x
       → (placed : ℕ → List Placed) × Stands (opening_of x) [] vault placed (g.M.Media.disk c.open_synced.new.media))
@@ -62,15 +62,15 @@ returns-clause-opened g c = record {
       (λ vault h x told holds. h x told (subst (λ (i : Image). HoldsParts i x) (sym (c.sync_all.ensures.reads told)) holds))
       c.open_synced.ensures.known;
   contents = IfOk-weaker c.open_synced.result
-      (λ vault. (x : Contents) → g.M.Media.tells → All (λ m. Durable m (g.M.Media.disk c.sync_all.new.media)) members → HoldsContents (g.M.Media.disk c.sync_all.new.media).reads x
-      → EndsMeet members (reading_of x) × IsToldBy x vault)
-      (λ vault. (x : Contents) → g.M.Media.tells → HoldsContents (g.M.Media.disk c.args.media.now).reads x → EndsMeet members (reading_of x) × IsToldBy x vault)
+      (λ vault. (x : Contents) → g.M.Media.tells → All (λ m. Durable m (g.M.Media.disk c.sync_all.new.media)) (members_in (g.M.Media.disk c.sync_all.new.media).reads) → HoldsContents (g.M.Media.disk c.sync_all.new.media).reads x
+      → EndsMeet (members_with x.further) (reading_of x) × IsToldBy x vault)
+      (λ vault. (x : Contents) → g.M.Media.tells → HoldsContents (g.M.Media.disk c.args.media.now).reads x → EndsMeet (members_with x.further) (reading_of x) × IsToldBy x vault)
       (λ vault h x told holds. h x told c.in-Ok.ensures.durable (subst (λ (i : Image). HoldsContents i x) (sym (c.sync_all.ensures.reads told)) holds))
       c.open_synced.ensures.contents;
   readable = IfOk-weaker c.open_synced.result
-      (λ vault. (x : Contents) → g.M.Media.tells → All (λ m. Durable m (g.M.Media.disk c.sync_all.new.media)) members → HoldsContents (g.M.Media.disk c.sync_all.new.media).reads x
-      → AreLevel members (reading_of x) → IsReadable (opening_of x) [] vault x.placed (g.M.Media.disk c.open_synced.new.media))
-      (λ vault. (x : Contents) → g.M.Media.tells → HoldsContents (g.M.Media.disk c.args.media.now).reads x → AreLevel members (reading_of x)
+      (λ vault. (x : Contents) → g.M.Media.tells → All (λ m. Durable m (g.M.Media.disk c.sync_all.new.media)) (members_in (g.M.Media.disk c.sync_all.new.media).reads) → HoldsContents (g.M.Media.disk c.sync_all.new.media).reads x
+      → AreLevel (members_with x.further) (reading_of x) → IsReadable (opening_of x) [] vault x.placed (g.M.Media.disk c.open_synced.new.media))
+      (λ vault. (x : Contents) → g.M.Media.tells → HoldsContents (g.M.Media.disk c.args.media.now).reads x → AreLevel (members_with x.further) (reading_of x)
       → IsReadable (opening_of x) [] vault x.placed (g.M.Media.disk c.open_synced.new.media))
       (λ vault h x told holds level. h x told c.in-Ok.ensures.durable (subst (λ (i : Image). HoldsContents i x) (sym (c.sync_all.ensures.reads told)) holds) level)
       c.open_synced.ensures.readable;
@@ -92,7 +92,7 @@ pub returns-clause-writes : goal.returns-clause-writes
 returns-clause-writes g c = record {
   others = search rules;
   sizes = search rules;
-  cause = cause_after _ _ _ _ c.sync_all.ensures.cause.later c.open_synced.ensures.cause;
+  cause = cause_after _ _ _ _ _ c.sync_all.ensures.cause.later c.open_synced.ensures.cause;
 }
 
 pub returns-clause-bytes : goal.returns-clause-bytes

@@ -6,7 +6,6 @@ use Rattle.vdr_entry.specs.Queries.{asked}
 use Rattle.vdr_vault.specs.Vaults.{VaultState}
 use Rattle.vdr_ring.specs.declared.refused.ReadRefused.TheVariants.{Fault}
 use Rattle.vdr_vault.proofs.Coming.{holds_on}
-use Rattle.vdr_vault.proofs.Members.{ring_is}
 use Rattle.vdr_vault.proofs.Playing.{judged_over, readable_still, rings_still, stands_still}
 use Rattle.vdr_vault.proofs.Stretched.{gives_within}
 use Rattle.vdr_vault.proofs.Stepped.{reads_turn, steps_unstepped, steps_within}

@@ -1,11 +1,8 @@
-use Rattle.std.proofs.Common.{rules, ◌<◌, ℕ, Result, Err, sym, ap, ◌∙◌, subst, arith}
+use Rattle.std.proofs.Common.{sym, ap, ◌∙◌, arith}
 use Rattle.std.proofs.lemmas.Bool.{false≢true}
 use Rattle.std.proofs.lemmas.Result.{IfOk-weaker}
 use Rattle.vdr_durability.specs.Playback.{medium_of}
-use Rattle.vdr_config.specs.Sizes.{window_of}
-use Rattle.vdr_directory.specs.Sequence.{all_records}
 use Rattle.vdr_entry.specs.Queries.{asked}
-use Rattle.vdr_vault.specs.Stretches.{IsWhole, IsWindowOf}
 use Rattle.vdr_vault.specs.Vaults.{VaultState}
 use Rattle.vdr_vault.proofs.Coming.{holds_on}
 use Rattle.vdr_vault.proofs.Playing.{judged_over, readable_still, rings_still, stands_still}

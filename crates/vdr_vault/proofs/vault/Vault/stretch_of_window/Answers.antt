@@ -52,11 +52,11 @@ returns-clause-damaged g c k offset is =
     )
 
 pub returns-clause-counts : goal.returns-clause-counts
-returns-clause-counts g c = (counts_on c.args.m _ _ _ _ _ (ring_is c.requires.rings c.args.m c.requires.member).medium c.step_on-found.ensures.keeps.counts).others
+returns-clause-counts g c = (counts_on c.args.m _ _ _ _ _ (ring_is c.requires.rings c.args.m (let two = c.requires.rings.two in let member = c.requires.member in omega (arith, member, two))).medium c.step_on-found.ensures.keeps.counts).others
 
 pub returns-clause-cause : goal.returns-clause-cause
 returns-clause-cause g c =
-    let medium = (ring_is c.requires.rings c.args.m c.requires.member).medium in
+    let medium = (ring_is c.requires.rings c.args.m (let two = c.requires.rings.two in let member = c.requires.member in omega (arith, member, two))).medium in
     begun_cause c.args.m _ _ c.step_on-found.result c.step_on-found.new.cursor.visit.item c.in-Some.place c.begun.result c.begun.ensures
     (counts_on c.args.m _ _ _ _ _ medium c.step_on-found.ensures.keeps.counts).later
     (λ e. rose_on c.args.m _ _ _ medium (c.step_on-found.ensures.keeps.cause e))
