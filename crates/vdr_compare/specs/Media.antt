@@ -1,5 +1,5 @@
 -- What a comparison says of two media, whatever their bytes are (this project's profile).
-use Rattle.std.specs.Prelude.{◌≡◌, ◌≤◌, ℕ, Bool, List, Option, Result, Ok, Err, sum}
+use Rattle.std.specs.Prelude.{◌≡◌, ◌<◌, ◌≤◌, ℕ, Bool, List, Option, Result, Ok, Err, sum}
 use Rattle.vdr_config.specs.Sizes.{window_of}
 use Rattle.vdr_outside.specs.Causes.{NoneFalls, Rose}
 use Rattle.vdr_outside.specs.Disk.{Image, content}
@@ -28,7 +28,7 @@ abbrev pub ComparesMedia : Image → (old new : Option (List ℕ)) → Result Ve
 ComparesMedia image old new (Ok verdict) = OfBoth image (λ c w places. Compares c w places old new (Ok verdict))
 ComparesMedia image old new (Err (Comparing why)) = OfBoth image (λ c w places. Compares c w places old new (Err why))
 ComparesMedia image old new (Err (Opening parts.NoMemory)) = new ≡ old
-ComparesMedia image old new (Err (Opening (parts.Damaged m offset))) = (new ≡ old) × RefusesAlone m (content image m) offset
+ComparesMedia image old new (Err (Opening (parts.Damaged m offset))) = (new ≡ old) × (m < 2) × RefusesAlone m (content image m) offset
 ComparesMedia image old new (Err (Opening parts.Fault)) = new ≡ old
 
 -- Which object failed where there is an error.

@@ -42,7 +42,7 @@ fn open_both<M: Media>(alloc: Global, media: &mut M) -> Result<(Alone, Alone, bo
     ensures capsule { IfOk result (λ x. M.tells → IsAloneOn 0 (content (M.disk media.old).reads 0) x.0) }
     ensures longterm { IfOk result (λ x. M.tells → IsAloneOn 1 (content (M.disk media.old).reads 1) x.1) }
     ensures alike { IfOk result (λ x. M.tells → AreAlike (content (M.disk media.old).reads 0) (content (M.disk media.old).reads 1) x.2) }
-    ensures damaged { (k offset : ℕ) → result ≡ Err (Damaged k offset) → M.tells → RefusesAlone k (content (M.disk media.old).reads k) offset }
+    ensures damaged { (k offset : ℕ) → result ≡ Err (Damaged k offset) → M.tells → (k < 2) × RefusesAlone k (content (M.disk media.old).reads k) offset }
     ensures unchanged { Unchanged (M.disk media.old) (M.disk media.new) }
     ensures cause { HasPartCause (M.faults media.old) (M.faults media.new) result }
 {
@@ -64,7 +64,7 @@ pub(crate) fn read_both<M: Media>(
     ensures surveyed { IfOk result (λ x. M.tells → (y z : Rescue) → Rescued 0 (content (M.disk media.old).reads 0) y → Rescued 1 (content (M.disk media.old).reads 1) z
         → IsSurveyOf 0 (content (M.disk media.old).reads 0) y x.0 × IsSurveyOf 1 (content (M.disk media.old).reads 1) z x.1) }
     ensures alike { IfOk result (λ x. M.tells → AreAlike (content (M.disk media.old).reads 0) (content (M.disk media.old).reads 1) x.2) }
-    ensures damaged { (k offset : ℕ) → result ≡ Err (Damaged k offset) → M.tells → RefusesAlone k (content (M.disk media.old).reads k) offset }
+    ensures damaged { (k offset : ℕ) → result ≡ Err (Damaged k offset) → M.tells → (k < 2) × RefusesAlone k (content (M.disk media.old).reads k) offset }
     ensures unchanged { Unchanged (M.disk media.old) (M.disk media.new) }
     ensures cause { HasPartCause (M.faults media.old) (M.faults media.new) result }
 {

@@ -24,9 +24,10 @@ use Rattle.vdr_directory.specs.Sequence.{Placed, all_records}
 use Rattle.vdr_directory.specs.Telling.{IsKnownAsBy}
 use Rattle.vdr_media.specs.Medium.{HoldsText}
 use Rattle.vdr_media.proofs.Rooms.{text_fits}
-use Rattle.vdr_media.proofs.Two.{all_two, any_at, of_each}
+use Rattle.vdr_media.proofs.Two.{all_two}
+use Rattle.vdr_media.proofs.Members.{any_at, of_each}
 use Rattle.vdr_opening.specs.Costs.{ReadsParts, ReadsToOpen, opening_bytes}
-use Rattle.vdr_opening.specs.Media.{members, Contents, HoldsParts, IsMediumBy}
+use Rattle.vdr_opening.specs.Media.{members_with, Contents, HoldsParts, IsMediumBy}
 use Rattle.vdr_opening.proofs.ContentsHeld.{one_text}
 use Rattle.vdr_ring.specs.Openings.{IsRingOf}
 use Rattle.vdr_ring.specs.Rings.{RingState}
@@ -107,7 +108,7 @@ module _ {tells tells_images : Type 0} (old now : Disk tells tells_images) (same
   by_number k = IsMediumBy k x.config x.text (x.placed k) (content old.reads k)
 
   its : (m : ℕ) → m < 2 → by_number m
-  its m lt = of_each by_number holds.media m lt
+  its m lt = of_each by_number x.further holds.media m (omega (arith, lt))
 
   module _ (m : ℕ) (lt : m < 2) (area : Area) (medium : area.medium ≡ m) (segment : area.segment ≡ c.segment) (size : ℕ) (slots : area.slots ≡ slots_in (sizes_of c) size) (size_is : size ≡ get_or old.sizes m 0) where
     pub segment_is : area.segment ≡ x.config.segment
@@ -167,7 +168,7 @@ module _ (segment : ℕ) (known : ℕ → List Placed) (sizes a b c d : List ℕ
   abbrev of_slots : ℕ → ℕ
   of_slots m = 1 + 64 * slot_count segment (get_or sizes m 0) + segment * lacking (known m)
 
-  pub parts_read : ReadsAtMost 0 (of_slots 0) a b → ReadsAtMost 1 (of_slots 1) b c → ReadsAtMost 0 16384 c d → ReadsParts 16385 segment known sizes a d
+  pub parts_read : ReadsAtMost 0 (of_slots 0) a b → ReadsAtMost 1 (of_slots 1) b c → ReadsAtMost 0 16384 c d → ReadsParts 0 16385 segment known sizes a d
   parts_read first next text = record {
     each = all_two (λ m. get_or d m 0 ≤ get_or a m 0 + opening_bytes 16385 segment (slot_count segment (get_or sizes m 0)) (known m))
         (subst (λ (n : ℕ). get_or d 0 0 ≤ get_or a 0 0 + n) (one_sum (64 * slot_count segment (get_or sizes 0 0)) (segment * lacking (known 0)))
@@ -180,10 +181,10 @@ module _ (segment : ℕ) (known : ℕ → List Placed) (sizes a b c d : List ℕ
 twice : (x y z slots bare : ℕ) → y ≤ x + (32768 + slots + bare) → z ≤ y + (16385 + slots + bare) → z ≤ x + 2 * (32768 + slots + bare)
 twice x y z slots bare first next = omega (arith, first, next)
 
-pub reads_twice : (x : Contents) (sizes a b c : List ℕ) → ReadsToOpen x sizes a b → ReadsParts 16385 x.config.segment x.placed sizes b c → ReadsTwice x sizes a c
+pub reads_twice : (x : Contents) (sizes a b c : List ℕ) → ReadsToOpen x sizes a b → ReadsParts x.further 16385 x.config.segment x.placed sizes b c → ReadsTwice x sizes a c
 reads_twice x sizes a b c first next = record {
   each = λ i d there.
-      let m = get_or members i d in
+      let m = get_or (members_with x.further) i d in
       twice (get_or a m 0) (get_or b m 0) (get_or c m 0) (64 * slot_count x.config.segment (get_or sizes m 0)) (x.config.segment * lacking (x.placed m)) (first.each i d there) (next.each i d there);
   others = λ k above. next.others k above ∙ first.others k above;
 }
@@ -209,7 +210,7 @@ upto P (suc n) before here (suc k) lt = upto (λ j. P (suc j)) n (λ j lt. befor
 pub both_cause : {T U E F : Type 0} (m : ℕ) (a b c : List ℕ) (e : E) (f : F) → m < 2 → NoneFalls a b → HasCauseOn {T = T} m b c (Err e) → HasBothCause {T = U} a c (Err f)
 both_cause m a b c e f lt earlier h = record {
   later = none_falls_join a b c earlier h.later;
-  rose = any_at (λ k. Rose (get_or a k 0) (get_or c k 0)) m lt (rose_after (get_or a m 0) (get_or b m 0) (get_or c m 0) (earlier.none_falls m) h.failed);
+  rose = any_at (λ k. Rose (get_or a k 0) (get_or c k 0)) 0 m lt (rose_after (get_or a m 0) (get_or b m 0) (get_or c m 0) (earlier.none_falls m) h.failed);
 }
 
 pub both_none : {T E : Type 0} (a c : List ℕ) (x : T) → NoneFalls a c → HasBothCause {E = E} a c (Ok x)
@@ -241,7 +242,7 @@ room_before c sizes m ring h = record {
 }
 
 -- Why opening failed, behind calls that did not lower a count.
-pub cause_behind : {T : Type 0} (a b c : List ℕ) (r : Result T OpenRefused) → NoneFalls a b → HasOpenCause b c r → HasOpenCause a c r
+pub cause_behind : {T : Type 0} {ms : List ℕ} (a b c : List ℕ) (r : Result T OpenRefused) → NoneFalls a b → HasOpenCause ms b c r → HasOpenCause ms a c r
 cause_behind a b c r earlier h = open_cause a c r (none_falls_join a b c earlier h.later)
     (λ is. let one = h.by_medium is in (one.0, one.1, one.2, one.3, rose_after (get_or a one.1 0) (get_or b one.1 0) (get_or c one.1 0) (earlier.none_falls one.1) one.4))
 

@@ -7,7 +7,7 @@ use Rattle.vdr_durability.specs.Readings.{EndsMeet}
 use Rattle.vdr_outside.specs.Causes.{NoneFalls, Rose}
 use Rattle.vdr_outside.specs.Disk.{Disk}
 use Rattle.vdr_media.specs.Formatted.{IsFormatted}
-use Rattle.vdr_opening.specs.Media.{Contents, HoldsParts, members, reading_of}
+use Rattle.vdr_opening.specs.Media.{Contents, HoldsParts, members_with, reading_of}
 use Rattle.vdr_info.specs.Costs.{ReadsTwice}
 use Rattle.vdr_info.specs.Helds.{TellsHeld, held_behind}
 use Rattle.vdr_info.specs.Lines.{medium_line}
@@ -36,14 +36,14 @@ pub record OpensInfo {tells tells_images : Type 0} (info : InfoState) (disk : Di
   pub formatted : IsFormatted disk.reads
   pub parts : Contents
   pub holds : HoldsParts disk.reads parts
-  pub meet : EndsMeet members (reading_of parts)
+  pub meet : EndsMeet (members_with parts.further) (reading_of parts)
   pub told : IsInfoOf parts disk.sizes info
   pub reads : ReadsTwice parts disk.sizes before now
 
 -- No count of faults falls, and an error comes only where that of one of the media rose.
 pub record HasBothCause {T E : Type 0} (before now : List ℕ) (result : Result T E) : Type 0 where
   pub later : NoneFalls before now
-  pub rose : OnErr result (Any (λ m. Rose (get_or before m 0) (get_or now m 0)) members)
+  pub rose : OnErr result (Any (λ m. Rose (get_or before m 0) (get_or now m 0)) (members_with 0))
 
 -- What tells of one medium: what it was told of its slots and of the records so far, and the text below its line.
 pub record TellerState : Type 0 where

@@ -6,7 +6,7 @@ ghost use Rattle.vdr_media.specs.Formatted.{IsFormatted, IsUnformatted};
 ghost use Rattle.vdr_opening.specs.Answers.{HasOpenCause, RefusesAsRead};
 ghost use Rattle.vdr_outside.specs.declared.fault.PartRefused.TheVariants.{Damaged as PartDamaged};
 ghost use Rattle.vdr_opening.specs.Costs.{ReadsParts};
-ghost use Rattle.vdr_opening.specs.Media.{Contents, HoldsParts, members};
+ghost use Rattle.vdr_opening.specs.Media.{Contents, HoldsParts, members_with};
 ghost use Rattle.vdr_opening.specs.Parts.{HasPartCause, HasRoomBefore};
 ghost use Rattle.vdr_opening.specs.Refusals.{IsRefused};
 ghost use Rattle.vdr_opening.specs.declared.refused.OpenRefused.TheVariants.{Damaged, NotFormatted};
@@ -41,7 +41,7 @@ impl Model for Info {
 // Syncs both media, so that what is said of damage holds behind a stop too.
 fn sync_both<M: Media>(media: &mut M) -> Result<(), Failed>
     requires two { 2 ≤ length (M.disk media.old).sizes }
-    ensures durable { OnOk result (All (λ m. Durable m (M.disk media.new)) members) }
+    ensures durable { OnOk result (All (λ m. Durable m (M.disk media.new)) (members_with 0)) }
     ensures reads { M.tells → (M.disk media.new).reads ≡ (M.disk media.old).reads }
     ensures moments { AtEachMoment (M.disk media.old) (M.disk media.new) (λ i. (M.disk media.old).now i) }
     ensures sizes { (M.disk media.new).sizes ≡ (M.disk media.old).sizes }
@@ -69,10 +69,10 @@ fn read_parts<M: Media>(alloc: Global, media: &mut M, config: &Config) -> Result
     ensures told { IfOk result (λ parts. M.tells → (x : Contents) → HoldsParts (M.disk media.old).reads x → config.now ≡ x.config
         → AreParts x (M.disk media.old).sizes parts.capsule parts.long_term parts.text.items) }
     ensures counts { IfOk result (λ parts. M.tells → (x : Contents) → HoldsParts (M.disk media.old).reads x → config.now ≡ x.config
-        → ReadsParts 16385 x.config.segment x.placed (M.disk media.old).sizes (M.bytes_read media.old) (M.bytes_read media.new)) }
+        → ReadsParts x.further 16385 x.config.segment x.placed (M.disk media.old).sizes (M.bytes_read media.old) (M.bytes_read media.new)) }
     ensures legal { (k offset : ℕ) → result ≡ Err (PartDamaged k offset) → M.tells → (x : Contents) → HoldsParts (M.disk media.old).reads x → config.now ≡ x.config → ⊥ }
     ensures unchanged { Unchanged (M.disk media.old) (M.disk media.new) }
-    ensures cause { HasPartCause (M.faults media.old) (M.faults media.new) result }
+    ensures cause { HasPartCause (members_with 0) (M.faults media.old) (M.faults media.new) result }
 {
     let capsule = survey(alloc, media, area_of(config, 0, media.size(0)))?;
     let long_term = survey(
@@ -95,7 +95,7 @@ fn read_synced<M: Media>(alloc: Global, media: &mut M) -> Result<Info, OpenRefus
     ensures info { IfOk result (λ info. M.tells → OpensInfo info (M.disk media.old) (M.bytes_read media.old) (M.bytes_read media.new)) }
     ensures refused { RefusesAsRead result (M.disk media.old) }
     ensures unchanged { Unchanged (M.disk media.old) (M.disk media.new) }
-    ensures cause { HasOpenCause (M.faults media.old) (M.faults media.new) result }
+    ensures cause { HasOpenCause (members_with 0) (M.faults media.old) (M.faults media.new) result }
 {
     let opened = read_media(alloc, media)?;
     let parts = read_parts(alloc, media, &opened.config)?;
@@ -121,7 +121,7 @@ pub fn read_info<M: Media>(alloc: Global, media: &mut M) -> Result<Info, OpenRef
     ensures moments { AtEachMoment (M.disk media.old) (M.disk media.new) (λ i. (M.disk media.old).now i) }
     ensures reads { M.tells → (M.disk media.new).reads ≡ (M.disk media.old).reads }
     ensures sizes { (M.disk media.new).sizes ≡ (M.disk media.old).sizes }
-    ensures cause { HasOpenCause (M.faults media.old) (M.faults media.new) result }
+    ensures cause { HasOpenCause (members_with 0) (M.faults media.old) (M.faults media.new) result }
 {
     sync_both(media)?;
     read_synced(alloc, media)

@@ -19,9 +19,9 @@ use Rattle.vdr_config.specs.Sizes.{sizes_of}
 use Rattle.vdr_durability.specs.Commits.{IsDoneIn, closing_size}
 use Rattle.vdr_durability.specs.Media.{IsAppended, IsMediumOf, state_after}
 use Rattle.vdr_durability.proofs.Media.{appended, is_paced, silent}
-use Rattle.vdr_media.proofs.Two.{all_two}
+use Rattle.vdr_media.proofs.Members.{of_all, of_each}
 use Rattle.vdr_directory.specs.Sequence.{Placed, segments_in}
-use Rattle.vdr_opening.specs.Media.{members}
+use Rattle.vdr_opening.specs.Answers.{further_on, members_on}
 use Rattle.vdr_vault.specs.Calls.{Commits, MayCommit}
 use Rattle.vdr_vault.specs.Vaults.{VaultState, ShowsHistory, Stands}
 use Rattle.vdr_vault.proofs.ShownHistory.{stands_silent}
@@ -63,14 +63,14 @@ module _ {tells tells_images : Type 0} (opening : Opening) (events : List Event)
     made_now = act_made opening events whole h.made opening.settings.limits vault.config.batch (Commit records taken) done
 
     -- The batch may come next.
-    pub may_commit : (v : IsStanding opening events vault old) → closing_size ≤ vault.config.batch → 0 < length records → MayCommit opening events vault.config v.placed records
+    pub may_commit : (v : IsStanding opening events vault old) → closing_size ≤ vault.config.batch → 0 < length records → MayCommit (members_on vault.rings) opening events vault.config v.placed records
     may_commit v roomy some = record {
       places = continues_run opening.settings.channels (next_place opening events) records (commit_continues opening events whole h.made records taken made_now);
       paced = All-weaker
           (λ m. IsMediumOf (sizes_of vault.config) (start_of_opening opening) (segments_in (v.first m)) (acts_of events) (segments_in (v.placed m)))
           (λ m. IsPaced (cost (sizes_of vault.config)) vault.config.batch (segments_in (v.placed m)) records)
           (λ m k. is_paced (sizes_of vault.config) (start_of_opening opening) (segments_in (v.first m)) (acts_of events) (segments_in (v.placed m)) records taken k roomy done_after some)
-          members v.media;
+          (members_on vault.rings) v.media;
     }
 
     -- The history with the commit, over media at whose every moment it or the history before was shown.
@@ -93,30 +93,30 @@ module _ {tells tells_images : Type 0} (opening : Opening) (events : List Event)
           (appended (sizes_of vault.config) (start_of_opening opening) (segments_in first) (acts_of events) (segments_in before) (segments_in now) records taken k done_after some put)
 
       -- A commit of records, as the vault answers it.
-      pub kept_commit : (result : Result (Unit {0}) Fault) (v : IsStanding opening events vault old) → after.config ≡ vault.config → OnErr result (after.failed ≡ true) → OnOk result (after.failed ≡ false)
+      pub kept_commit : (result : Result (Unit {0}) Fault) (v : IsStanding opening events vault old) → after.config ≡ vault.config → length after.rings ≡ length vault.rings → OnErr result (after.failed ≡ true) → OnOk result (after.failed ≡ false)
           → OnErr result ((after.next_place ≡ vault.next_place) × (after.last ≡ vault.last)) → after.table ≡ vault.table → 0 < length records
           → Commits opening events event records v.placed after old new result → KeepsEvent opening events t0 (Commit records taken) after old new
-      kept_commit result v same fails goes kept table some commits =
+      kept_commit result v same as_many fails goes kept table some commits =
           grown commits.moments (ok_where result after.failed (IsStanding opening (events ++ event ∷ []) after new) fails (standing result commits.done))
           (λ failed. let k = err_where result after.failed ((after.next_place ≡ vault.next_place) × (after.last ≡ vault.last)) goes kept failed in (k.0, k.1, table))
         where
           media : (m : ℕ) → Type 0
           media m = IsMediumOf (sizes_of vault.config) (start_of_opening opening) (segments_in (v.first m)) (acts_of events) (segments_in (v.placed m))
 
-          placing : (now : ℕ → List Placed) → Stands opening (events ++ event ∷ []) after now new → All (λ m. IsAppended (segments_in (v.placed m)) records (segments_in (now m))) members
+          placing : (now : ℕ → List Placed) → Stands opening (events ++ event ∷ []) after now new → All (λ m. IsAppended (segments_in (v.placed m)) records (segments_in (now m))) (members_on after.rings)
               → IsStanding opening (events ++ event ∷ []) after new
           placing now stands put = record {
             placed = now;
             first = v.first;
             stands = stands;
-            media = all_two
-                (λ m. IsMediumOf (sizes_of after.config) (start_of_opening opening) (segments_in (v.first m)) (acts_of (events ++ event ∷ [])) (segments_in (now m)))
-                (medium_with 0 (v.first 0) (v.placed 0) (now 0) same some (v.media 0 0 (omega arith)) (put 0 0 (omega arith)))
-                (medium_with 1 (v.first 1) (v.placed 1) (now 1) same some (v.media 1 1 (omega arith)) (put 1 1 (omega arith)));
+            media = of_all (λ m. IsMediumOf (sizes_of after.config) (start_of_opening opening) (segments_in (v.first m)) (acts_of (events ++ event ∷ [])) (segments_in (now m))) (further_on after.rings)
+                (λ m l. medium_with m (v.first m) (v.placed m) (now m) same some
+                (of_each (λ m. IsMediumOf (sizes_of vault.config) (start_of_opening opening) (segments_in (v.first m)) (acts_of events) (segments_in (v.placed m))) (further_on vault.rings) v.media m (omega (arith, l, as_many)))
+                (of_each (λ m. IsAppended (segments_in (v.placed m)) records (segments_in (now m))) (further_on after.rings) put m l));
           }
 
           standing : (result : Result (Unit {0}) Fault)
-              → OnOk result ((now : ℕ → List Placed) × Stands opening (events ++ event ∷ []) after now new × All (λ m. IsAppended (segments_in (v.placed m)) records (segments_in (now m))) members)
+              → OnOk result ((now : ℕ → List Placed) × Stands opening (events ++ event ∷ []) after now new × All (λ m. IsAppended (segments_in (v.placed m)) records (segments_in (now m))) (members_on after.rings))
               → OnOk result (IsStanding opening (events ++ event ∷ []) after new)
           standing (Ok done) k = placing k.0 k.1 k.2
           standing (Err fault) k = tt
@@ -133,5 +133,5 @@ module _ {tells tells_images : Type 0} (opening : Opening) (events : List Event)
               (λ m. IsMediumOf (sizes_of vault.config) (start_of_opening opening) (segments_in (v.first m)) (acts_of (events ++ event vault old ∷ [])) (segments_in (v.placed m)))
               (λ m k. subst (λ (acts : List Act). IsMediumOf (sizes_of vault.config) (start_of_opening opening) (segments_in (v.first m)) acts (segments_in (v.placed m))) (sym (acts_with events (event vault old)))
               (silent (sizes_of vault.config) (start_of_opening opening) (segments_in (v.first m)) (acts_of events) (segments_in (v.placed m)) (Commit records taken) k done_after none))
-              members v.media;
+              (members_on vault.rings) v.media;
         }) (λ fails. absurd (true≢false (sym fails ∙ works)))

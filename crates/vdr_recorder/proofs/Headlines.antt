@@ -1,5 +1,6 @@
 -- What a recording leaves, in the words of its headline.
 use Rattle.std.proofs.Common.{◌≡◌, ◌≢◌, ◌⊎◌, inl, inr, ◌≤◌, ℕ, List, [], ◌∷◌, ◌++◌, Contains, Option, None, Ok, ⊎_elim, refl, sym, ap, ◌∙◌, subst, arith, append-nil, suc}
+use Rattle.std.specs.List.{range_with_len}
 use Rattle.std.proofs.lemmas.List.Elements.{All-contains, All-nil}
 use Rattle.vdr_terms.specs.Order.{AreInOrder}
 use Rattle.vdr_terms.specs.Needs.{cost, usable}
@@ -14,10 +15,11 @@ use Rattle.vdr_outside.specs.Disk.{Disk, Image}
 use Rattle.vdr_outside.proofs.Moments.{moments_weaken}
 use Rattle.vdr_config.specs.Grammar.{configuration}
 use Rattle.vdr_config.specs.Sizes.{sizes_of}
-use Rattle.vdr_opening.specs.Media.{members, Contents, opening_of}
+use Rattle.vdr_media.specs.Formatted.{members}
+use Rattle.vdr_opening.specs.Media.{members_with, Contents, opening_of}
 use Rattle.vdr_vault.specs.Openings.{GoesOnSynced}
 use Rattle.vdr_vault.specs.Regularity.{AreSound, IsRegularMedium}
-use Rattle.vdr_vault.specs.Vaults.{HoldsHistory, ShowsHistory, ring_of}
+use Rattle.vdr_vault.specs.Vaults.{ShowsHistory}
 use Rattle.vdr_ring.proofs.Continuing.{one_end}
 use Rattle.vdr_recorder.specs.Recordings.{HasRecorded, Passes, RecorderState}
 use Rattle.vdr_recorder.proofs.Opened.{keeps_synced}
@@ -71,9 +73,19 @@ told_as opening shows others Told Tells pends may_pend before after hears hears'
 
 -- The order of what the media were given
 
+-- The capsule and the long-term medium are among any count of media.
+there_of : (n m : ℕ) → Contains members m → Contains (members_with n) m
+there_of n m there = ⊎_elim
+    (λ (e : 0 ≡ m). subst (Contains (members_with n)) e (contains_here 0 (1 ∷ range_with_len 2 n)))
+    (λ (k : Contains (1 ∷ []) m). ⊎_elim
+    (λ (e : 1 ≡ m). subst (Contains (members_with n)) e (contains_there 0 (1 ∷ range_with_len 2 n) 1 (contains_here 1 (range_with_len 2 n))))
+    (λ (k : Contains [] m). absurd (none_contained m k))
+    (contains_cases 1 [] m k))
+    (contains_cases 0 (1 ∷ []) m there)
+
 module _ (x : Contents) (sound : AreSound x) where
   opened_in_order : (m : ℕ) → Contains members m → AreInOrder ((opening_of x).records m)
-  opened_in_order m there = (All-contains (IsRegularMedium x) members m sound.regular there).order
+  opened_in_order m there = (All-contains (IsRegularMedium x) (members_with x.further) m sound.regular (there_of x.further m there)).order
 
   -- Events that record nothing leave it.
   pub order_quiet : (events : List Event) → recorded events ≡ [] → (m : ℕ) → Contains members m → AreInOrder (all_records (opening_of x) m events)
@@ -84,11 +96,8 @@ module _ (x : Contents) (sound : AreSound x) where
     lasts_meet : last ((opening_of x).records 1) ≡ last ((opening_of x).records 0)
     lasts_meet =
         let stands = (h.works h.failed).standing.stands in
-        let on : (m : ℕ) → Contains members m → HoldsHistory (opening_of x) [] r.vault.config m (ring_of r.vault m) ((h.works h.failed).standing.placed m) disk =
-        λ m there. All-contains (λ m. HoldsHistory (opening_of x) [] r.vault.config m (ring_of r.vault m) ((h.works h.failed).standing.placed m) disk) members m
-        stands.media there in
-        let capsule = on 0 (contains_here 0 (1 ∷ [])) in
-        let long_term = on 1 (contains_there 0 (1 ∷ []) 1 (contains_here 1 [])) in
+        let capsule = stands.media 0 0 (omega arith) in
+        let long_term = stands.media 1 1 (omega arith) in
         ap last (sym (append-nil ((opening_of x).records 1)))
         ∙ sym long_term.retains.window.newest
         ∙ one_end (cost (sizes_of r.vault.config)) (usable (sizes_of r.vault.config)) r.vault.config.batch ((h.works h.failed).standing.placed 1)

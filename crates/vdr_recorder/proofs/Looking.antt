@@ -1,5 +1,5 @@
 -- A call that only reads is a look, and so is each call after a fault.
-use Rattle.std.proofs.Common.{◌≡◌, ℕ, List, [], ◌∷◌, ◌++◌, Bool, true, false, Option, Some, None, ◌⊎◌, inl, inr, refl, sym, ap, ◌∙◌, subst, arith, true≢false}
+use Rattle.std.proofs.Common.{◌≡◌, ◌-◌, ℕ, List, length, All, [], ◌∷◌, ◌++◌, Bool, true, false, Option, Some, None, ◌⊎◌, inl, inr, refl, sym, ap, ◌∙◌, subst, arith, true≢false}
 use Rattle.std.proofs.lemmas.List.Elements.{All-weaker}
 use Rattle.std.proofs.lemmas.Bool.{cases_Bool}
 use Rattle.vdr_core.specs.Histories.{Act, Event, EndsBy, IsHistory, Opening}
@@ -19,7 +19,8 @@ use Rattle.vdr_durability.specs.Media.{IsMediumOf}
 use Rattle.vdr_durability.proofs.Media.{silent}
 use Rattle.vdr_durability.proofs.Acknowledged.{rises_with}
 use Rattle.vdr_directory.specs.Sequence.{Placed, segments_in}
-use Rattle.vdr_opening.specs.Media.{members}
+use Rattle.vdr_media.specs.Formatted.{members_with}
+use Rattle.vdr_opening.specs.Answers.{members_on}
 use Rattle.vdr_vault.specs.Vaults.{VaultState, ShowsHistory, Stands}
 use Rattle.vdr_vault.proofs.ShownHistory.{stand_shows, stands_silent}
 use Rattle.vdr_vault.specs.Refusals.{HasVisitCause}
@@ -33,6 +34,7 @@ use Rattle.vdr_recorder.proofs.Continuing.{acts_with, fails_with, has_moment, le
 module _ {tells tells_images : Type 0} (opening : Opening) (events : List Event) (t0 : ℕ) (r : RecorderState) (old new : Disk tells tells_images) (h : HasRecorded opening events t0 r old)
     (after : VaultState) (same : Unchanged old new) (failed_is : after.failed ≡ r.vault.failed) (config_is : after.config ≡ r.vault.config)
     (place_is : after.next_place ≡ r.vault.next_place) (last_is : after.last ≡ r.vault.last) (table_is : after.table ≡ r.vault.table)
+    (as_many : length after.rings ≡ length r.vault.rings)
     (stands : (placed : ℕ → List Placed) → Stands opening events r.vault placed old → Stands opening events after placed new) where
   abbrev look : Event
   look = record { act = Look; moment = moment_of after.failed new.clock }
@@ -59,13 +61,13 @@ module _ {tells tells_images : Type 0} (opening : Opening) (events : List Event)
           placed = v.placed;
           first = v.first;
           stands = stands_silent opening events look refl refl after v.placed new (stands v.placed v.stands);
-          media = All-weaker
+          media = subst (λ (n : ℕ). All (λ m. IsMediumOf (sizes_of after.config) (start_of_opening opening) (segments_in (v.first m)) (acts_of (events ++ look ∷ [])) (segments_in (v.placed m))) (members_with (n - 2))) (sym as_many) (All-weaker
               (λ m. IsMediumOf (sizes_of r.vault.config) (start_of_opening opening) (segments_in (v.first m)) (acts_of events) (segments_in (v.placed m)))
               (λ m. IsMediumOf (sizes_of after.config) (start_of_opening opening) (segments_in (v.first m)) (acts_of (events ++ look ∷ [])) (segments_in (v.placed m)))
               (λ m k. subst (λ (x : Configuration × List Act). IsMediumOf (sizes_of x.0) (start_of_opening opening) (segments_in (v.first m)) x.1 (segments_in (v.placed m)))
               (λ i. (sym config_is i, sym (acts_with events look) i))
               (silent (sizes_of r.vault.config) (start_of_opening opening) (segments_in (v.first m)) (acts_of events) (segments_in (v.placed m)) Look k tt refl))
-              members v.media;
+              (members_on r.vault.rings) v.media);
         };
         open_is = w.open_is ∙ sym (ap (λ (s : RunState). s.is_open) left);
         makes = λ opened. subst (λ (x : Configuration × RunState). MakesBy x.0 x.1.start x.1.popped r.maker) (λ i. (sym config_is i, sym left i)) (w.makes opened);
@@ -118,7 +120,7 @@ module _ {tells tells_images : Type 0} where
         maker = refl;
         is_open = refl;
         done = λ opening events t0 h.
-            look_done opening events t0 r old new h after read.unchanged kept.4 kept.0 kept.2 kept.3 kept.1 (λ placed stands. read.stands opening events placed stands);
+            look_done opening events t0 r old new h after read.unchanged kept.4 kept.0 kept.2 kept.3 kept.1 read.vault.count (λ placed stands. read.stands opening events placed stands);
         cause = cause;
       }
 

@@ -1,5 +1,5 @@
 -- A recorder that was opened has an empty history over its opening.
-use Rattle.std.proofs.Common.{◌≡◌, ◌≢◌, ◌<◌, ◌≤◌, ℕ, List, [], sum_by, zero, suc, false, Option, Some, None, Result, Ok, Err, inl, inr, refl, sym, ap, ◌∙◌, subst, arith, true≢false, ⊎_elim}
+use Rattle.std.proofs.Common.{◌≡◌, ◌≢◌, ◌<◌, ◌≤◌, ◌+◌, ℕ, List, [], sum_by, suc, false, Option, Some, None, Result, Ok, Err, inl, inr, refl, sym, ap, ◌∙◌, subst, arith, true≢false, ⊎_elim}
 use Rattle.std.proofs.lemmas.List.Elements.{All-nil}
 use Rattle.vdr_terms.specs.Needs.{cost, usable}
 use Rattle.vdr_terms.specs.Order.{AreInOrder}
@@ -13,12 +13,13 @@ use Rattle.vdr_outside.specs.Disk.{Disk, Image}
 use Rattle.vdr_config.specs.Sizes.{sizes_of}
 use Rattle.vdr_durability.specs.Media.{EndsBefore, IsMediumOf}
 use Rattle.vdr_durability.proofs.Media.{at_opening}
-use Rattle.vdr_media.proofs.Two.{all_two}
+use Rattle.vdr_media.proofs.Members.{of_all, of_each}
 use Rattle.vdr_directory.specs.Sequence.{Placed, all_records, batches_in, segments_in}
 use Rattle.vdr_ring.specs.Regularity.{AreLaidOut, AreRegular}
 use Rattle.vdr_opening.specs.declared.refused.OpenRefused.{OpenRefused}
 use Rattle.vdr_vault.specs.Openings.{GoesOnSynced, OpensAtEachMoment}
-use Rattle.vdr_vault.specs.Vaults.{VaultState, ShowsHistory, Stands}
+use Rattle.vdr_opening.specs.Answers.{further_on}
+use Rattle.vdr_vault.specs.Vaults.{HoldsHistory, VaultState, ShowsHistory, Stands, ring_of}
 use Rattle.vdr_ring.proofs.Records.{records_are}
 use Rattle.vdr_ring.proofs.Continuing.{last_of, last_by_batch, regular_batches}
 use Rattle.vdr_recorder.specs.Recordings.{HasRecorded, start_of_opening}
@@ -72,20 +73,18 @@ keeps_synced shows t0 disk low shown = record {
 }
 
 module _ {tells tells_images : Type 0} (opening : Opening) (vault : VaultState) (placed : ℕ → List Placed) (disk : Disk tells tells_images) (stands : Stands opening [] vault placed disk) where
-  regular_on : (m : ℕ) → m < 2 → AreRegular (cost (sizes_of vault.config)) (usable (sizes_of vault.config)) vault.config.batch (placed m)
-  regular_on zero l = (stands.media 0 0 (omega arith)).regular
-  regular_on (suc zero) l = (stands.media 1 1 (omega arith)).regular
-  regular_on (suc (suc m)) l = absurd (omega (arith, l))
+  regular_on : (m : ℕ) → m < 2 + further_on vault.rings → AreRegular (cost (sizes_of vault.config)) (usable (sizes_of vault.config)) vault.config.batch (placed m)
+  regular_on m l = (of_each (λ m. HoldsHistory opening [] vault.config m (ring_of vault m) (placed m) disk) (further_on vault.rings) stands.media m l).regular
 
   ends_first : EndsBefore (start_of_opening opening) (last (all_records (placed 0)))
   ends_first = ends_at (start_of_opening opening) (last (all_records (placed 0))) (let here = stands.place in omega (arith, here)) stands.stamp
 
-  -- Both media end with the same record.
-  same_end : last (all_records (placed 1)) ≡ last (all_records (placed 0))
-  same_end =
-      ap last (sym (records_are (placed 1)))
-      ∙ last_by_batch (batches_in (placed 1)) (regular_batches (cost (sizes_of vault.config)) (usable (sizes_of vault.config)) vault.config.batch (placed 1) (regular_on 1 (omega arith)).layout)
-      ∙ ap last_of (stands.level 1 1 (omega arith))
+  -- All media end with the same record.
+  same_end : (m : ℕ) → m < 2 + further_on vault.rings → last (all_records (placed m)) ≡ last (all_records (placed 0))
+  same_end m l =
+      ap last (sym (records_are (placed m)))
+      ∙ last_by_batch (batches_in (placed m)) (regular_batches (cost (sizes_of vault.config)) (usable (sizes_of vault.config)) vault.config.batch (placed m) (regular_on m l).layout)
+      ∙ ap last_of (of_each (λ m. last (batches_in (placed m)) ≡ last (batches_in (placed 0))) (further_on vault.rings) stands.level m l)
       ∙ sym (last_by_batch (batches_in (placed 0)) (regular_batches (cost (sizes_of vault.config)) (usable (sizes_of vault.config)) vault.config.batch (placed 0) (regular_on 0 (omega arith)).layout))
       ∙ ap last (records_are (placed 0))
 
@@ -112,9 +111,8 @@ module _ {tells tells_images : Type 0} (opening : Opening) (vault : VaultState) 
         placed = placed;
         first = placed;
         stands = stands;
-        media = all_two (λ m. IsMediumOf (sizes_of vault.config) (start_of_opening opening) (segments_in (placed m)) [] (segments_in (placed m)))
-            (medium_opened 0 (regular_on 0 (omega arith)) ends_first)
-            (medium_opened 1 (regular_on 1 (omega arith)) (subst (EndsBefore (start_of_opening opening)) (sym same_end) ends_first));
+        media = of_all (λ m. IsMediumOf (sizes_of vault.config) (start_of_opening opening) (segments_in (placed m)) [] (segments_in (placed m))) (further_on vault.rings)
+            (λ m l. medium_opened m (regular_on m l) (subst (EndsBefore (start_of_opening opening)) (sym (same_end m l)) ends_first));
       };
       open_is = refl;
       makes = λ opened. absurd (true≢false (sym opened));

@@ -1,5 +1,6 @@
 -- Legible media that show a history play back what it has.
 use Rattle.std.proofs.Common.{◌≡◌, ℕ, zero, suc, List, [], ◌∷◌, Contains, Option, Some, None, Ok, filter, slice_get, option_and_then, refl, sym, ap, ◌∙◌, subst, append-nil}
+use Rattle.std.specs.List.{range_with_len}
 use Rattle.std.proofs.lemmas.List.Elements.{All-contains}
 use Rattle.vdr_terms.specs.Order.{AreInOrder}
 use Rattle.vdr_terms.specs.Queries.{Medium, matches}
@@ -15,7 +16,8 @@ use Rattle.vdr_durability.proofs.Reopened.{reopened_places, reopened_window}
 use Rattle.vdr_outside.specs.Disk.{Image, content}
 use Rattle.vdr_config.specs.Grammar.{configuration}
 use Rattle.vdr_config.specs.Sizes.{window_of}
-use Rattle.vdr_opening.specs.Media.{members, Contents, HoldsContents, IsMedium, opening_of, reading_of}
+use Rattle.vdr_media.specs.Formatted.{members}
+use Rattle.vdr_opening.specs.Media.{members_with, Contents, HoldsContents, IsMedium, opening_of, reading_of}
 use Rattle.vdr_opening.proofs.Fronts.{one_config}
 use Rattle.vdr_vault.specs.Regularity.{AreSound}
 use Rattle.vdr_vault.specs.Vaults.{ShowsHistory}
@@ -25,7 +27,7 @@ use Rattle.vdr_recorder.proofs.Restoring.{restored_rises}
 
 -- The text is read as one configuration.
 pub config_read : (image : Image) (x : Contents) → HoldsContents image x → configuration x.text ≡ Ok x.config
-config_read image x holds = (All-contains (λ m. IsMedium m x.config x.text (x.placed m) (content image m)) members 0 holds.media (contains_here 0 (1 ∷ []))).front.configured.reads
+config_read image x holds = (All-contains (λ m. IsMedium m x.config x.text (x.placed m) (content image m)) (members_with x.further) 0 holds.media (contains_here 0 (1 ∷ range_with_len 2 x.further))).front.configured.reads
 
 -- A live incident stands in the table.
 slot_there : (table : List (Option histories.Incident)) (i : ℕ) (incident : histories.Incident) → option_and_then (λ slot. slot) (slice_get table i) ≡ Some incident → Contains table (Some incident)
@@ -86,4 +88,4 @@ pub plays : (x : Contents) → configuration x.text ≡ Ok x.config → (events 
     → ShowsHistory (opening_of x) events image → PlaysBack (opening_of x) events image
 plays x reads events order image (numbers, reading, is_read, shown) =
     played_back x reads events order image is_read.reads.contents is_read.reads.holds is_read.sound
-    (subst (Shows members (opening_of x) events) is_read.reads.is (subst (λ (ms : List ℕ). Shows ms (opening_of x) events reading) is_read.reads.members_are shown))
+    (subst (Shows members (opening_of x) events) is_read.reads.is (subst (λ (ms : List ℕ). Shows ms (opening_of x) events reading) (is_read.reads.members_are ∙ ap members_with is_read.reads.holds.further) shown))

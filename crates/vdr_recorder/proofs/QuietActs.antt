@@ -1,5 +1,5 @@
 -- A save and a release are events of a recorder's history that record nothing and leave its runs alone.
-use Rattle.std.proofs.Common.{◌≡◌, ◌≢◌, ℕ, List, [], ◌∷◌, ◌++◌, Bool, true, false, Option, Some, None, Result, Ok, Err, OnOk, OnErr, ◌⊎◌, inl, inr, refl, sym, ap, ◌∙◌, subst, true≢false}
+use Rattle.std.proofs.Common.{◌≡◌, ◌≢◌, ◌-◌, ℕ, List, length, All, [], ◌∷◌, ◌++◌, Bool, true, false, Option, Some, None, Result, Ok, Err, OnOk, OnErr, ◌⊎◌, inl, inr, refl, sym, ap, ◌∙◌, subst, true≢false}
 use Rattle.std.proofs.lemmas.List.Elements.{All-weaker}
 use Rattle.vdr_terms.specs.Rates.{Limit}
 use Rattle.vdr_core.specs.Histories.{Act, Event, Incident, MayCome, Opening, live, records_of_act}
@@ -15,7 +15,8 @@ use Rattle.vdr_durability.proofs.Media.{silent}
 use Rattle.vdr_directory.specs.Sequence.{segments_in}
 use Rattle.vdr_incident.specs.declared.refused.ReleaseRefused.{ReleaseRefused}
 use Rattle.vdr_incident.specs.declared.refused.ReleaseRefused.TheVariants as releases
-use Rattle.vdr_opening.specs.Media.{members}
+use Rattle.vdr_media.specs.Formatted.{members_with}
+use Rattle.vdr_opening.specs.Answers.{members_on}
 use Rattle.vdr_vault.specs.Saves.{Does, Saves, save_refusal}
 use Rattle.vdr_vault.specs.Vaults.{VaultState, ShowsHistory, Stands}
 use Rattle.vdr_vault.specs.declared.refused.SaveRefused.{SaveRefused}
@@ -90,12 +91,13 @@ module _ {tells tells_images : Type 0} (opening : Opening) (events : List Event)
       look_done opening events t0 r (disk before) (disk now) h after
       (subst (λ media. Unchanged (disk before) (disk media)) (sym still) (same_disk (disk before)))
       (ap (λ (s : VaultState). s.failed) same) (ap (λ (s : VaultState). s.config) same) (ap (λ (s : VaultState). s.next_place) same) (ap (λ (s : VaultState). s.last) same)
-      (ap (λ (s : VaultState). s.table) same)
+      (ap (λ (s : VaultState). s.table) same) (ap (λ (s : VaultState). length s.rings) same)
       (λ placed stands. subst (λ (s : VaultState). Stands opening events s placed (disk now)) (sym same)
       (subst (λ media. Stands opening events r.vault placed (disk media)) (sym still) stands))
 
   module _ (old : Disk tells tells_images) (h : HasRecorded opening events t0 r old) (works : r.vault.failed ≡ false) (after : VaultState) (new : Disk tells tells_images)
-      (config_is : after.config ≡ r.vault.config) (place_is : after.next_place ≡ r.vault.next_place) (last_is : after.last ≡ r.vault.last) where
+      (config_is : after.config ≡ r.vault.config) (place_is : after.next_place ≡ r.vault.next_place) (last_is : after.last ≡ r.vault.last)
+      (as_many : length after.rings ≡ length r.vault.rings) where
     kept : HasKept opening events t0 r.vault old
     kept = kept_of opening events t0 r old h
 
@@ -111,14 +113,14 @@ module _ {tells tells_images : Type 0} (opening : Opening) (events : List Event)
             placed = v.placed;
             first = v.first;
             stands = stands goes;
-            media = All-weaker
+            media = subst (λ (n : ℕ). All (λ m. IsMediumOf (sizes_of after.config) (start_of_opening opening) (segments_in (v.first m)) (acts_of (events ++ event_of act ∷ [])) (segments_in (v.placed m))) (members_with (n - 2))) (sym as_many) (All-weaker
                 (λ m. IsMediumOf (sizes_of r.vault.config) (start_of_opening opening) (segments_in (v.first m)) (acts_of events) (segments_in (v.placed m)))
                 (λ m. IsMediumOf (sizes_of after.config) (start_of_opening opening) (segments_in (v.first m)) (acts_of (events ++ event_of act ∷ [])) (segments_in (v.placed m)))
                 (λ m k. subst (λ (x : Configuration × List Act). IsMediumOf (sizes_of x.0) (start_of_opening opening) (segments_in (v.first m)) x.1 (segments_in (v.placed m)))
                 (λ i. (sym config_is i, sym (acts_with events (event_of act)) i))
                 (silent (sizes_of r.vault.config) (start_of_opening opening) (segments_in (v.first m)) (acts_of events) (segments_in (v.placed m)) act k
                 (quiet.done opening.settings.limits r.vault.config.batch (state_after (start_of_opening opening) (acts_of events))) quiet.none))
-                members v.media;
+                (members_on r.vault.rings) v.media);
           }
 
       event_keeps : KeepsEvent opening events t0 act after old new

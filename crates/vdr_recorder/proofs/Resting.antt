@@ -8,7 +8,8 @@ use Rattle.vdr_outside.specs.Disk.{Disk, content}
 use Rattle.vdr_outside.proofs.Moments.{size_read}
 use Rattle.vdr_directory.specs.Sequence.{all_records}
 use Rattle.vdr_ring.specs.Whole.{is_filled}
-use Rattle.vdr_opening.specs.Media.{members, Contents, HoldsContents, IsMedium, slots_on}
+use Rattle.vdr_opening.specs.Answers.{members_on}
+use Rattle.vdr_opening.specs.Media.{Contents, HoldsContents, IsMedium, slots_on}
 use Rattle.vdr_vault.specs.Vaults.{HoldsHistory, VaultState, ShowsHistory, Stands, contents_of, ring_of}
 use Rattle.vdr_vault.proofs.Kept.{filled_there}
 use Rattle.vdr_vault.proofs.ShownHistory.{held_at, stands_sound}
@@ -35,13 +36,14 @@ module _ {tells tells_images : Type 0} (opening : Opening) (events : List Event)
 
   holds : HoldsContents disk.reads Held
   holds = record {
-    media = All-weaker Holds (λ m. IsMedium m vault.config opening.settings.text (placed m) (content disk.reads m)) read_at members stands.media;
+    further = stands.read_version told;
+    media = All-weaker Holds (λ m. IsMedium m vault.config opening.settings.text (placed m) (content disk.reads m)) read_at (members_on vault.rings) stands.media;
     table = stands.table told;
     there = stands.there;
     filled = All-weaker Holds (λ m. is_filled (ring_of vault m).slots (placed m) ≡ is_filled (slots_on vault.config disk.reads m) (placed m))
-        (λ m h. filled_there vault.config disk.sizes m (ring_of vault m) (placed m) (content disk.reads m) h.is_its (size_read disk m told)) members stands.media;
+        (λ m h. filled_there vault.config disk.sizes m (ring_of vault m) (placed m) (content disk.reads m) h.is_its (size_read disk m told)) (members_on vault.rings) stands.media;
   }
 
   pub stand_reads : ShowsHistory opening events disk.reads
   stand_reads = shown_level opening events Held disk.reads holds (stands_sound opening events vault placed disk stands) refl stands.incidents_are stands.level
-      (All-weaker Holds (λ m. Retains (opening.settings.seconds m) (pins_on m (incidents opening events)) (given_with opening events m) (all_records (placed m))) (λ m h. h.retains) members stands.media)
+      (All-weaker Holds (λ m. Retains (opening.settings.seconds m) (pins_on m (incidents opening events)) (given_with opening events m) (all_records (placed m))) (λ m h. h.retains) (members_on vault.rings) stands.media)

@@ -9,7 +9,8 @@ use Rattle.vdr_durability.proofs.Lists.{all_from, contains_cases, contains_here,
 use Rattle.vdr_outside.specs.Disk.{Image, content}
 use Rattle.vdr_durability.specs.Readings.{begins_at, ends_before, leading_batch, next_after, records_on, restored, with_next}
 use Rattle.vdr_durability.proofs.Restored.{next_added, next_kept}
-use Rattle.vdr_opening.specs.Media.{members, Contents, HoldsContents, IsMedium, reading_of}
+use Rattle.vdr_media.specs.Formatted.{members}
+use Rattle.vdr_opening.specs.Media.{members_with, Contents, HoldsContents, IsMedium, reading_of}
 use Rattle.vdr_directory.specs.Order.{AreInOrder, AreInPlace, IsInPlace, next_place}
 use Rattle.vdr_directory.specs.Sequence.{Placed, all_records, batches_in, first_of, records_of}
 use Rattle.vdr_ring.proofs.Batching.{placed_runs_on}
@@ -93,4 +94,4 @@ restored_rises image y holds m there =
     (λ b e. placed_runs_on None (y.placed 0) b (order 0 (contains_here 0 (1 ∷ []))) (last_contained (batches_in (y.placed 0)) b e))
   where
     order : (m : ℕ) → Contains members m → AreInOrder (y.placed m)
-    order m there = (All-contains (λ m. IsMedium m y.config y.text (y.placed m) (content image m)) members m holds.media there).segments.order
+    order m there = (All-contains (λ m. IsMedium m y.config y.text (y.placed m) (content image m)) (members_with y.further) m holds.media (subst (λ (n : ℕ). Contains (members_with n) m) (sym holds.further) there)).segments.order

@@ -139,7 +139,7 @@ module _ {tells tells_images hears : Type 0} (was : Watched) (r : RecorderState)
 -- Looks
 
 pub look_at : {tells tells_images : Type 0} (t0 : ℕ) (r : RecorderState) (disk : Disk tells tells_images) (opening : Opening) (events : List Event) → HasRecorded opening events t0 r disk → HasDone opening events t0 Look r disk disk
-look_at t0 r disk opening events h = look_done opening events t0 r disk disk h r.vault (same_disk disk) refl refl refl refl refl (λ placed stands. stands)
+look_at t0 r disk opening events h = look_done opening events t0 r disk disk h r.vault (same_disk disk) refl refl refl refl refl refl (λ placed stands. stands)
 
 pub look_called : {tells tells_images : Type 0} (t0 : ℕ) (r : RecorderState) (disk : Disk tells tells_images) → Called t0 r disk r disk turns.Look
 look_called t0 r disk opening events told h = (Look, look_at t0 r disk opening events h, λ works. refl)

@@ -13,7 +13,7 @@ use Rattle.vdr_config.specs.Sizes.{limits_in}
 use Rattle.vdr_outside.specs.declared.media.Media.{Ghosts as MediaTells}
 use Rattle.vdr_outside.specs.Disk.{Disk}
 use Rattle.vdr_media.specs.Formatted.{IsFormatted}
-use Rattle.vdr_opening.specs.Media.{members, Contents, HoldsContents, HoldsParts, opening_of, reading_of}
+use Rattle.vdr_opening.specs.Media.{members_with, Contents, HoldsContents, HoldsParts, opening_of, reading_of}
 use Rattle.vdr_opening.specs.declared.refused.OpenRefused.{OpenRefused}
 use Rattle.vdr_vault.specs.Openings.{IsToldBy, TellsOfParts}
 use Rattle.vdr_vault.specs.declared.refused.SaveRefused.{SaveRefused}
@@ -98,7 +98,7 @@ pub record BeginsRun {T : Type 0} (old new : RecorderState) (sizes : List ℕ) (
 -- The call wrote to the capsule and the long-term medium alone and read nothing. A fault has its cause.
 pub record WritesStart {M : Type 0} (media : MediaTells M) (failed : Bool) (old new : M) (result : Result ⊤ StartRefused) : Type 0 where
   -- the other media read as before
-  pub others : media.tells → SameElsewhere (media.disk old).reads (media.disk new).reads
+  pub others : media.tells → SameElsewhere (members_with 0) (media.disk old).reads (media.disk new).reads
   -- no medium changes its size
   pub sizes : (media.disk new).sizes ≡ (media.disk old).sizes
   -- nothing was read
@@ -158,13 +158,13 @@ module _ {tells tells_images : Type 0} where
     -- where the media are sound, nothing is recorded on them since a moment of the call
     pub opened : IfOk result (λ r. (x : Contents) → tells → HoldsContents old.reads x → AreSound x → (t0 : ℕ) × (old.clock ≤ t0) × (t0 ≤ new.clock) × HasRecorded (opening_of x) [] t0 r new)
     -- the media were formatted, and what the recorder tells is what was read of them
-    pub parts : IfOk result (λ r. tells → IsFormatted old.reads × (x : Contents) × HoldsParts old.reads x × EndsMeet members (reading_of x) × IsToldBy x r.vault)
+    pub parts : IfOk result (λ r. tells → IsFormatted old.reads × (x : Contents) × HoldsParts old.reads x × EndsMeet (members_with x.further) (reading_of x) × IsToldBy x r.vault)
     -- of a medium to which opening appended nothing, the ring tells of what was read
     pub known : IfOk result (λ r. (x : Contents) → tells → HoldsParts old.reads x → TellsOfParts x r.vault)
     -- where they are legible it is what they hold
-    pub contents : IfOk result (λ r. (x : Contents) → tells → HoldsContents old.reads x → EndsMeet members (reading_of x) × IsToldBy x r.vault)
+    pub contents : IfOk result (λ r. (x : Contents) → tells → HoldsContents old.reads x → EndsMeet (members_with x.further) (reading_of x) × IsToldBy x r.vault)
     -- where both end with the last batch it can be read
-    pub readable : IfOk result (λ r. (x : Contents) → tells → HoldsContents old.reads x → AreLevel members (reading_of x) → IsReadable (opening_of x) [] r.vault x.placed new)
+    pub readable : IfOk result (λ r. (x : Contents) → tells → HoldsContents old.reads x → AreLevel (members_with x.further) (reading_of x) → IsReadable (opening_of x) [] r.vault x.placed new)
     -- no write has failed
     pub works : IfOk result (λ r. r.vault.failed ≡ false)
     -- the slot that each ring has loaded was judged

@@ -5,8 +5,8 @@ use Rattle.vdr_core.specs.Histories.{Event}
 use Rattle.vdr_durability.specs.Keeping.{ShowsPrefix, acknowledged}
 use Rattle.vdr_outside.specs.Disk.{Disk, Image}
 use Rattle.vdr_config.specs.Configuration.{Configuration}
-use Rattle.vdr_media.specs.Formatted.{IsEmptyHistory}
-use Rattle.vdr_opening.specs.Media.{members, Contents, HoldsContents, opening_of}
+use Rattle.vdr_media.specs.Formatted.{IsEmptyHistory, members}
+use Rattle.vdr_opening.specs.Media.{Contents, HoldsContents, opening_of}
 use Rattle.vdr_vault.specs.Lives.{IsRun, Life}
 use Rattle.vdr_vault.specs.Openings.{LeavesAll}
 use Rattle.vdr_vault.specs.Ours.{RestAs}

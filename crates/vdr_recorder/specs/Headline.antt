@@ -11,7 +11,8 @@ use Rattle.vdr_durability.specs.Shown.{Shows}
 use Rattle.vdr_durability.specs.Playback.{selected}
 use Rattle.vdr_outside.specs.Disk.{Disk, Image}
 use Rattle.vdr_outside.specs.Moments.{AtEachMoment}
-use Rattle.vdr_opening.specs.Media.{members, Contents, HoldsContents, opening_of, reading_of}
+use Rattle.vdr_media.specs.Formatted.{members}
+use Rattle.vdr_opening.specs.Media.{Contents, HoldsContents, opening_of, reading_of}
 use Rattle.vdr_vault.specs.Regularity.{AreSound}
 use Rattle.vdr_recorder.specs.Watched.{AreTold, Watched, nothing_told}
 

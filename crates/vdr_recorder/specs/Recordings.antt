@@ -11,7 +11,7 @@ use Rattle.vdr_outside.specs.Moments.{AtEachMoment}
 use Rattle.vdr_config.specs.Configuration.{IsConfiguration}
 use Rattle.vdr_config.specs.Sizes.{sizes_of}
 use Rattle.vdr_directory.specs.Sequence.{Placed, segments_in}
-use Rattle.vdr_opening.specs.Media.{members}
+use Rattle.vdr_opening.specs.Answers.{members_on}
 use Rattle.vdr_vault.specs.Vaults.{VaultState, ShowsHistory, Stands, of_stamp}
 use Rattle.vdr_run.specs.declared.maker.Maker.{Maker}
 use Rattle.vdr_recorder.specs.Making.{HasRoom, MakesBy}
@@ -48,7 +48,7 @@ module _ {tells tells_images : Type 0} where
     pub placed : ℕ → List Placed
     pub first : ℕ → List Placed  -- as the media were opened
     pub stands : Stands opening events vault placed disk
-    pub media : All (λ m. IsMediumOf (sizes_of vault.config) (start_of_opening opening) (segments_in (first m)) (acts_of events) (segments_in (placed m))) members
+    pub media : All (λ m. IsMediumOf (sizes_of vault.config) (start_of_opening opening) (segments_in (first m)) (acts_of events) (segments_in (placed m))) (members_on vault.rings)
 
   -- So it does, and the maker has counted the run that is open.
   pub record IsWorking (opening : Opening) (events : List Event) (r : RecorderState) (disk : Disk tells tells_images) : Type 0 where

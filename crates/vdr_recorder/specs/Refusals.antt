@@ -1,7 +1,7 @@
 -- Where a run may begin, and why it is not begun.
 use Rattle.std.specs.Prelude.{◌≡◌, ◌<◌, ◌^◌, ◌⊎◌, ℕ, Bool, true, List, get_or, sum, Any, Result, Err, ⊤}
 use Rattle.vdr_outside.specs.Causes.{NoneFalls, Rose}
-use Rattle.vdr_opening.specs.Media.{members}
+use Rattle.vdr_media.specs.Formatted.{members}
 use Rattle.vdr_core.specs.Histories.{Opening}
 use Rattle.vdr_core.specs.Runs.{base_after}
 use Rattle.vdr_recorder.specs.declared.run.StartRefused.{StartRefused}

@@ -6,6 +6,7 @@ ghost use Rattle.vdr_core.specs.Histories.Act.{Commit};
 ghost use Rattle.vdr_core.specs.RunStates.{state_left};
 ghost use Rattle.vdr_core.specs.Taken.{Captured};
 ghost use Rattle.vdr_durability.specs.Commits.{IsDoneIn, closing_size};
+ghost use Rattle.vdr_media.specs.Formatted.{members_with};
 ghost use Rattle.vdr_vault.specs.Calls.{HasVaultCause, SameElsewhere};
 ghost use Rattle.vdr_vault.specs.Vaults.{AreRings};
 ghost use Rattle.vdr_recorder.specs.Recordings.{HasKept, KeepsEvent};
@@ -33,10 +34,10 @@ pub(crate) fn commit<M: Media>(
     ensures config { vault.new.config ≡ vault.old.config }
     ensures table { vault.new.table ≡ vault.old.table }
     ensures rings { AreRings vault.new (M.disk media.new).sizes }
-    ensures others { M.tells → SameElsewhere (M.disk media.old).reads (M.disk media.new).reads }
+    ensures others { M.tells → SameElsewhere (members_with 0) (M.disk media.old).reads (M.disk media.new).reads }
     ensures sizes { (M.disk media.new).sizes ≡ (M.disk media.old).sizes }
     ensures counts { M.bytes_read media.new ≡ M.bytes_read media.old }
-    ensures cause { HasVaultCause vault.old.failed (M.faults media.old) (M.faults media.new) result }
+    ensures cause { HasVaultCause (members_with 0) vault.old.failed (M.faults media.old) (M.faults media.new) result }
 {
     if records.is_empty() {
         return Ok(());

@@ -11,7 +11,7 @@ ghost use Rattle.vdr_core.specs.Sums.{counted_by, recorded_in};
 ghost use Rattle.vdr_core.specs.Taken.{Captured as CapturedTold};
 ghost use Rattle.vdr_durability.specs.Readings.{EndsMeet};
 ghost use Rattle.vdr_opening.specs.Costs.{ReadsToOpen};
-ghost use Rattle.vdr_opening.specs.Media.{Contents, HoldsContents, HoldsParts, members, opening_of, reading_of};
+ghost use Rattle.vdr_opening.specs.Media.{Contents, HoldsContents, HoldsParts, members_with, opening_of, reading_of};
 ghost use Rattle.vdr_opening.specs.declared.refused.OpenRefused.TheVariants.{Damaged, NotFormatted};
 ghost use Rattle.vdr_vault.specs.Openings.{OpensAtEachMoment, ReachesLongTerm, RefusesMedia, WritesMissing};
 ghost use Rattle.vdr_vault.specs.Regularity.{AreSound};
@@ -71,7 +71,7 @@ impl Recorder {
         requires three { length (M.disk media.old).sizes ≤ 3 }
         ensures opened { OpensRecorder result (M.disk media.old) (M.disk media.new) }
         ensures missing { (x : Contents) → M.tells → HoldsContents (M.disk media.old).reads x → WritesMissing x (M.disk media.old) (M.disk media.new) }
-        ensures moments { (x : Contents) → M.tells → HoldsContents (M.disk media.old).reads x → EndsMeet members (reading_of x) → AreSound x
+        ensures moments { (x : Contents) → M.tells → HoldsContents (M.disk media.old).reads x → EndsMeet (members_with x.further) (reading_of x) → AreSound x
             → OpensAtEachMoment (M.disk media.old) (M.disk media.new) result (ShowsHistory (opening_of x) []) }
         ensures refused { RefusesMedia result (M.disk media.old) (M.disk media.new) }
         ensures bytes { IfOk result (λ _. (x : Contents) → M.tells → HoldsParts (M.disk media.old).reads x

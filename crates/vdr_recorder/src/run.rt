@@ -8,6 +8,7 @@ ghost use Rattle.vdr_core.specs.Recorder.{begun, closing, recorder_after};
 ghost use Rattle.vdr_core.specs.RunStates.{next_start, recorder_in, state_left};
 ghost use Rattle.vdr_core.specs.Runs.{RunStart};
 ghost use Rattle.vdr_core.specs.Taken.{Captured as CapturedTold};
+ghost use Rattle.vdr_media.specs.Formatted.{members_with};
 ghost use Rattle.vdr_vault.specs.Keeps.{StopsAtFault, WritesToBoth};
 ghost use Rattle.vdr_vault.specs.Vaults.{AreRings};
 ghost use Rattle.vdr_recorder.specs.Calls.{BeginsRun, EndsRun, FitBatch, FitClose, GoesOnWith, RefusesStart, StaysBelowLimits, WritesStart};
@@ -107,7 +108,7 @@ impl Recorder {
             → (recorder_after start (popped ++ items.now)).made ≡ (recorder_after start popped).made → media.new ≡ media.old }
         ensures failing { StopsAtFault self.old.vault.failed self.new.vault.failed self.old self.new media.old media.new result }
         ensures goes_on { GoesOnWith items.now self.old self.new (M.disk media.new).sizes }
-        ensures writes { WritesToBoth M.Media self.old.vault.failed media.old media.new result }
+        ensures writes { WritesToBoth (members_with 0) M.Media self.old.vault.failed media.old media.new result }
     {
         if self.vault.failed() {
             return Err(Fault);
@@ -131,7 +132,7 @@ impl Recorder {
         ensures counted { (start : RunStart) (popped : List CapturedTold) → CountsItems start popped self.old.maker → CountsItems start popped self.new.maker }
         ensures failing { StopsAtFault self.old.vault.failed self.new.vault.failed self.old self.new media.old media.new result }
         ensures ends { EndsRun self.old self.new (M.disk media.new).sizes }
-        ensures writes { WritesToBoth M.Media self.old.vault.failed media.old media.new result }
+        ensures writes { WritesToBoth (members_with 0) M.Media self.old.vault.failed media.old media.new result }
     {
         if self.vault.failed() {
             return Err(Fault);

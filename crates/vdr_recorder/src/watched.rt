@@ -13,7 +13,7 @@ ghost use Rattle.vdr_durability.specs.Readings.{EndsMeet};
 ghost use Rattle.vdr_entry.specs.Queries.{asked};
 ghost use Rattle.vdr_incident.specs.declared.refused.ReleaseRefused.TheVariants.{Fault as AReleaseFault};
 ghost use Rattle.vdr_opening.specs.Costs.{ReadsToOpen};
-ghost use Rattle.vdr_opening.specs.Media.{Contents, HoldsContents, HoldsParts, members, opening_of, reading_of};
+ghost use Rattle.vdr_opening.specs.Media.{Contents, HoldsContents, HoldsParts, members_with, opening_of, reading_of};
 ghost use Rattle.vdr_run.specs.Making.{CountsItems, Makes, rest_of};
 ghost use Rattle.vdr_vault.specs.Keeps.{FailsWhere, FreesSlot, MeetsDamage, PutsIncident, RefusesRelease, RefusesSave, StopsAtFault, WritesToBoth, WritesToLongTerm};
 ghost use Rattle.vdr_vault.specs.Openings.{OpensAtEachMoment, ReachesLongTerm, RefusesMedia, WritesMissing};
@@ -83,7 +83,7 @@ impl Recorder {
         requires three { length (M.disk media.old).sizes ≤ 3 }
         ensures opened { OpensRecorder result (M.disk media.old) (M.disk media.new) }
         ensures missing { (x : Contents) → M.tells → HoldsContents (M.disk media.old).reads x → WritesMissing x (M.disk media.old) (M.disk media.new) }
-        ensures moments { (x : Contents) → M.tells → HoldsContents (M.disk media.old).reads x → EndsMeet members (reading_of x) → AreSound x
+        ensures moments { (x : Contents) → M.tells → HoldsContents (M.disk media.old).reads x → EndsMeet (members_with x.further) (reading_of x) → AreSound x
             → OpensAtEachMoment (M.disk media.old) (M.disk media.new) result (ShowsHistory (opening_of x) []) }
         ensures refused { RefusesMedia result (M.disk media.old) (M.disk media.new) }
         ensures bytes { IfOk result (λ _. (x : Contents) → M.tells → HoldsParts (M.disk media.old).reads x
@@ -145,7 +145,7 @@ impl Recorder {
             → (recorder_after start (popped ++ items.now)).made ≡ (recorder_after start popped).made → media.new ≡ media.old }
         ensures failing { StopsAtFault self.old.vault.failed self.new.vault.failed self.old self.new media.old media.new result }
         ensures goes_on { GoesOnWith items.now self.old self.new (M.disk media.new).sizes }
-        ensures writes { WritesToBoth M.Media self.old.vault.failed media.old media.new result }
+        ensures writes { WritesToBoth (members_with 0) M.Media self.old.vault.failed media.old media.new result }
         ensures watched { IsWatched W.hears (W.seen watch.new) self.new (M.disk media.new) }
         ensures untold { OnErr result (W.hears → W.seen watch.new ≡ W.seen watch.old) }
     {
@@ -170,7 +170,7 @@ impl Recorder {
         ensures counted { (start : RunStart) (popped : List CapturedTold) → CountsItems start popped self.old.maker → CountsItems start popped self.new.maker }
         ensures failing { StopsAtFault self.old.vault.failed self.new.vault.failed self.old self.new media.old media.new result }
         ensures ends { EndsRun self.old self.new (M.disk media.new).sizes }
-        ensures writes { WritesToBoth M.Media self.old.vault.failed media.old media.new result }
+        ensures writes { WritesToBoth (members_with 0) M.Media self.old.vault.failed media.old media.new result }
         ensures watched { IsWatched W.hears (W.seen watch.new) self.new (M.disk media.new) }
         ensures untold { OnErr result (W.hears → W.seen watch.new ≡ W.seen watch.old) }
     {

@@ -3,7 +3,7 @@ use Rattle.std.proofs.Common.{◌≡◌, ℕ, List, get_or, Bool, true, false, R
 use Rattle.std.specs.Prelude.{Any, sum}
 use Rattle.vdr_outside.specs.Causes.{NoneFalls, Rose}
 use Rattle.vdr_outside.proofs.Counts.{none_falls_join, on_err, rose_after, sum_rose}
-use Rattle.vdr_opening.specs.Media.{members}
+use Rattle.vdr_media.specs.Formatted.{members}
 use Rattle.vdr_vault.specs.Calls.{HasVaultCause}
 use Rattle.vdr_vault.specs.Openings.{HasCauseOnBoth}
 use Rattle.vdr_replay.specs.Answers.{HasReplayCause}
@@ -20,24 +20,24 @@ pub sum_of_rose : (a c : List ℕ) → NoneFalls a c → OneRose a c → Rose (s
 sum_of_rose a c later rose = sum_rose a c rose.1 later.same_media later.none_falls rose.4
 
 -- The fault of a call after calls that did not lower a count.
-pub cause_joined : {T E U F : Type 0} (a b c : List ℕ) (e : E) (s : Result U F) → NoneFalls a b → HasCauseOnBoth {T = T} b c (Err e) → HasCauseOnBoth a c s
+pub cause_joined : {T E U F : Type 0} (a b c : List ℕ) (e : E) (s : Result U F) → NoneFalls a b → HasCauseOnBoth {T = T} members b c (Err e) → HasCauseOnBoth members a c s
 cause_joined a b c e s earlier k =
     let later = none_falls_join a b c earlier k.later in
     let rose = rose_joined a b c earlier k.by_medium in
     record { later = later; by_medium = on_err s rose; in_all = on_err s (sum_of_rose a c later rose) }
 
 -- The same of a call of the vault, which had not failed.
-pub vault_rose : {T E : Type 0} (failed : Bool) (b c : List ℕ) (e : E) → failed ≡ false → HasVaultCause {T = T} failed b c (Err e) → OneRose b c
+pub vault_rose : {T E : Type 0} (failed : Bool) (b c : List ℕ) (e : E) → failed ≡ false → HasVaultCause {T = T} members failed b c (Err e) → OneRose b c
 vault_rose failed b c e works k = ⊎_elim (λ (was : failed ≡ true). absurd (true≢false (sym was ∙ works))) (λ (rose : OneRose b c). rose) k.by_medium
 
-pub vault_joined : {T E U F : Type 0} (failed : Bool) (a b c : List ℕ) (e : E) (s : Result U F) → failed ≡ false → NoneFalls a b → HasVaultCause {T = T} failed b c (Err e) → HasCauseOnBoth a c s
+pub vault_joined : {T E U F : Type 0} (failed : Bool) (a b c : List ℕ) (e : E) (s : Result U F) → failed ≡ false → NoneFalls a b → HasVaultCause {T = T} members failed b c (Err e) → HasCauseOnBoth members a c s
 vault_joined failed a b c e s works earlier k =
     let later = none_falls_join a b c earlier k.later in
     let rose = rose_joined a b c earlier (vault_rose failed b c e works k) in
     record { later = later; by_medium = on_err s rose; in_all = on_err s (sum_of_rose a c later rose) }
 
 -- And of the whole call
-pub replay_joined : {T E : Type 0} (a b c : List ℕ) (e : E) (s : Result Replayed ReplayRefused) → NoneFalls a b → HasCauseOnBoth {T = T} b c (Err e) → HasReplayCause a c s
+pub replay_joined : {T E : Type 0} (a b c : List ℕ) (e : E) (s : Result Replayed ReplayRefused) → NoneFalls a b → HasCauseOnBoth {T = T} members b c (Err e) → HasReplayCause a c s
 replay_joined a b c e s earlier k =
     let later = none_falls_join a b c earlier k.later in
     let rose = rose_joined a b c earlier k.by_medium in

@@ -4,7 +4,7 @@ use Rattle.std.specs.Prelude.{take}
 use Rattle.vdr_durability.specs.Readings.{EndsMeet}
 use Rattle.vdr_outside.specs.Disk.{Disk, Image, SameBut}
 use Rattle.vdr_config.specs.Grammar.{configuration}
-use Rattle.vdr_opening.specs.Media.{members, Contents, opening_of, reading_of}
+use Rattle.vdr_opening.specs.Media.{members_with, Contents, opening_of, reading_of}
 use Rattle.vdr_opening.specs.declared.refused.OpenRefused.{OpenRefused}
 use Rattle.vdr_opening.specs.declared.refused.OpenRefused.TheVariants as refusals
 use Rattle.vdr_vault.specs.Openings.{LeavesAll, OpensAtEachMoment, WritesMissing}
@@ -26,7 +26,7 @@ use Rattle.vdr_replay.proofs.Headlines.{opened_nothing}
 -- Opening was refused, or failed.
 pub open_stops : {tells tells_images T : Type 0} (x : Contents) (bytes : List ℕ) (now : Option (List ℕ)) (rose : Type 0) → configuration x.text ≡ Ok x.config → AreSound x → (old new : Disk tells tells_images) (hears : Type 0) (w : Watched) (result : Result T OpenRefused) (e : OpenRefused) → result ≡ Err e
     → ((result ≡ Err refusals.NotFormatted) ⊎ ((m : ℕ) × (offset : ℕ) × (result ≡ Err (refusals.Damaged m offset))) → LeavesAll old new)
-    → (EndsMeet members (reading_of x) → OpensAtEachMoment old new result (ShowsHistory (opening_of x) [])) → Answers x bytes now rose old new hears w (Err (refused_by_opening e))
+    → (EndsMeet (members_with x.further) (reading_of x) → OpensAtEachMoment old new result (ShowsHistory (opening_of x) [])) → Answers x bytes now rose old new hears w (Err (refused_by_opening e))
 open_stops x bytes now rose reads sound old new hears w result refusals.NoMemory is untouched moments = λ meet. opened_nothing x rose old new reads sound result (moments meet)
 open_stops x bytes now rose reads sound old new hears w result refusals.NotFormatted is untouched moments = inl (untouched (inl is))
 open_stops x bytes now rose reads sound old new hears w result (refusals.Damaged m offset) is untouched moments = inl (untouched (inr (m, offset, is)))

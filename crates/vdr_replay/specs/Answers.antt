@@ -10,7 +10,8 @@ use Rattle.vdr_outside.specs.Filling.{ReadsFewer}
 use Rattle.vdr_feed.specs.Feed.{Reaches, feed_header, longest_feed}
 use Rattle.vdr_feed.specs.Reader.{IfKnown}
 use Rattle.vdr_media.specs.Formatted.{IsFormatted}
-use Rattle.vdr_opening.specs.Media.{members, Contents, HoldsParts, opening_of, reading_of}
+use Rattle.vdr_media.specs.Formatted.{members}
+use Rattle.vdr_opening.specs.Media.{members_with, Contents, HoldsParts, opening_of, reading_of}
 use Rattle.vdr_recorder.specs.Recordings.{start_of_opening}
 use Rattle.vdr_recorder.specs.Refusals.{MayBegin}
 use Rattle.vdr_recorder.specs.Watched.{Watched}
@@ -45,8 +46,8 @@ module _ {tells tells_images : Type 0} (x : Contents) (bytes : List ℕ) (now : 
   -- Of media whose ends don't meet nothing is said where opening them failed or had no memory.
   abbrev pub Answers : Result Replayed ReplayRefused → Type 0
   Answers (Ok r) = IsRecorded r
-  Answers (Err Media) = EndsMeet members (reading_of x) → NothingIsRecorded x rose before after ⊎ IsBrokenOff
-  Answers (Err NoMemory) = EndsMeet members (reading_of x) → NothingIsRecorded x rose before after
+  Answers (Err Media) = EndsMeet (members_with x.further) (reading_of x) → NothingIsRecorded x rose before after ⊎ IsBrokenOff
+  Answers (Err NoMemory) = EndsMeet (members_with x.further) (reading_of x) → NothingIsRecorded x rose before after
   Answers (Err Place) = (2 ^ 62 ≤ (opening_of x).next_place) × NothingIsRecorded x rose before after
   Answers (Err Tick) = ((opening_of x).next_place < 2 ^ 62) × (2 ^ 62 ≤ base_after (opening_of x).last) × NothingIsRecorded x rose before after
   Answers (Err Input) = NothingIsRecorded x rose before after
@@ -80,7 +81,7 @@ Decides x left now (Err Media) = ⊤
 
 -- The image is formatted, what opening reads of it is legal and its ends meet, and P holds of what was read.
 abbrev pub IsOpenable : Image → (P : Contents → Type 0) → Type 0
-IsOpenable image P = IsFormatted image × (x : Contents) × HoldsParts image x × EndsMeet members (reading_of x) × P x
+IsOpenable image P = IsFormatted image × (x : Contents) × HoldsParts image x × EndsMeet (members_with x.further) (reading_of x) × P x
 
 -- What is said where the media were opened, and not refused before.
 abbrev pub IfOpened : Result Replayed ReplayRefused → Type 0 → Type 0

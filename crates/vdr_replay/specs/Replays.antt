@@ -7,7 +7,7 @@ use Rattle.vdr_outside.specs.Disk.{SameBut}
 use Rattle.vdr_outside.specs.declared.media.Media.{Ghosts as MediaTells}
 use Rattle.vdr_outside.specs.declared.source.Source.{Ghosts as SourceTells}
 use Rattle.vdr_media.specs.Formatted.{IsFormatted, IsUnformatted}
-use Rattle.vdr_opening.specs.Media.{members, Contents, HoldsContents, reading_of}
+use Rattle.vdr_opening.specs.Media.{members_with, Contents, HoldsContents, reading_of}
 use Rattle.vdr_opening.specs.Refusals.{IsRefused}
 use Rattle.vdr_vault.specs.Calls.{SameElsewhere}
 use Rattle.vdr_vault.specs.Openings.{LeavesAll, WritesMissing}
@@ -30,7 +30,7 @@ pub record ReplaysFeed {M I : Type 0} (media : MediaTells M) (source : SourceTel
   pub replayed : (x : Contents) (bytes : List ℕ) → media.tells → HoldsContents (media.disk old).reads x → AreSound x → source.left before ≡ Some bytes
       → Answers x bytes (source.left after) (Rose (sum (media.faults old)) (sum (media.faults new))) (media.disk old) (media.disk new) hears w result
   -- of any feed, one history of some feed
-  pub left : (x : Contents) → media.tells → HoldsContents (media.disk old).reads x → EndsMeet members (reading_of x) → AreSound x
+  pub left : (x : Contents) → media.tells → HoldsContents (media.disk old).reads x → EndsMeet (members_with x.further) (reading_of x) → AreSound x
       → LeavesHistory x (Rose (sum (media.faults old)) (sum (media.faults new))) (media.disk old) (media.disk new) hears w
   -- of media that are not formatted, what it might have left before
   pub blank : media.tells → IsUnformatted (media.disk old).reads → LeavesAll (media.disk old) (media.disk new)
@@ -67,7 +67,7 @@ pub record ReplaysFeed {M I : Type 0} (media : MediaTells M) (source : SourceTel
   -- What the call keeps of the media, whatever it answers.
 
   -- media but the capsule and the long-term one read as before
-  pub others : media.tells → SameElsewhere (media.disk old).reads (media.disk new).reads
+  pub others : media.tells → SameElsewhere (members_with 0) (media.disk old).reads (media.disk new).reads
   -- no medium changes its size
   pub sizes : (media.disk new).sizes ≡ (media.disk old).sizes
   -- no count of faults falls, and a fault of the media has its cause

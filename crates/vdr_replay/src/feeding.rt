@@ -11,6 +11,7 @@ ghost use Rattle.vdr_core.specs.Taken.{Captured as CapturedTold};
 ghost use Rattle.vdr_outside.specs.Causes.{Rose};
 ghost use Rattle.vdr_feed.specs.Kept.{Holds, IsLegalItem};
 ghost use Rattle.vdr_feed.specs.Reader.{IfKnown, IsNext, past_item};
+ghost use Rattle.vdr_media.specs.Formatted.{members};
 ghost use Rattle.vdr_vault.specs.Calls.{SameElsewhere};
 ghost use Rattle.vdr_vault.specs.Openings.{HasCauseOnBoth};
 ghost use Rattle.vdr_vault.specs.Vaults.{AreRings};
@@ -98,9 +99,9 @@ fn make_room<M: Media, W: Watch<M>>(
     ensures open { recorder.new.is_open ≡ true }
     ensures config { recorder.new.vault.config ≡ recorder.old.vault.config }
     ensures rings { AreRings recorder.new.vault (M.disk media.new).sizes }
-    ensures others { M.tells → SameElsewhere (M.disk media.old).reads (M.disk media.new).reads }
+    ensures others { M.tells → SameElsewhere members (M.disk media.old).reads (M.disk media.new).reads }
     ensures sizes { (M.disk media.new).sizes ≡ (M.disk media.old).sizes }
-    ensures cause { HasCauseOnBoth (M.faults media.old) (M.faults media.new) result }
+    ensures cause { HasCauseOnBoth members (M.faults media.old) (M.faults media.new) result }
     ensures watched { IsWatched W.hears (W.seen watch.new) recorder.new (M.disk media.new) }
 {
     if lanes.has_room(item) {
@@ -137,9 +138,9 @@ fn take_item<M: Media, W: Watch<M>>(
     ensures open { recorder.new.is_open ≡ true }
     ensures config { recorder.new.vault.config ≡ recorder.old.vault.config }
     ensures rings { AreRings recorder.new.vault (M.disk media.new).sizes }
-    ensures others { M.tells → SameElsewhere (M.disk media.old).reads (M.disk media.new).reads }
+    ensures others { M.tells → SameElsewhere members (M.disk media.old).reads (M.disk media.new).reads }
     ensures sizes { (M.disk media.new).sizes ≡ (M.disk media.old).sizes }
-    ensures cause { HasCauseOnBoth (M.faults media.old) (M.faults media.new) result }
+    ensures cause { HasCauseOnBoth members (M.faults media.old) (M.faults media.new) result }
     ensures watched { IsWatched W.hears (W.seen watch.new) recorder.new (M.disk media.new) }
 {
     make_room(recorder, media, watch, lanes, item)?;
@@ -172,9 +173,9 @@ pub(crate) fn take_all<I: Source, M: Media, W: Watch<M>>(
     ensures open { recorder.new.is_open ≡ true }
     ensures config { recorder.new.vault.config ≡ recorder.old.vault.config }
     ensures rings { AreRings recorder.new.vault (M.disk media.new).sizes }
-    ensures others { M.tells → SameElsewhere (M.disk media.old).reads (M.disk media.new).reads }
+    ensures others { M.tells → SameElsewhere members (M.disk media.old).reads (M.disk media.new).reads }
     ensures sizes { (M.disk media.new).sizes ≡ (M.disk media.old).sizes }
-    ensures cause { HasCauseOnBoth (M.faults media.old) (M.faults media.new) result }
+    ensures cause { HasCauseOnBoth members (M.faults media.old) (M.faults media.new) result }
     ensures watched { IsWatched W.hears (W.seen watch.new) recorder.new (M.disk media.new) }
 {
     let mut item = Item::new();

@@ -13,6 +13,7 @@ ghost use Rattle.vdr_core.specs.Taken.{Captured as CapturedTold};
 ghost use Rattle.vdr_config.specs.Configuration.{IsConfiguration};
 ghost use Rattle.vdr_config.specs.Sizes.{limits_in};
 ghost use Rattle.vdr_feed.specs.Kept.{Holds, IsLegalItem};
+ghost use Rattle.vdr_media.specs.Formatted.{members};
 ghost use Rattle.vdr_vault.specs.Calls.{SameElsewhere};
 ghost use Rattle.vdr_vault.specs.Openings.{HasCauseOnBoth};
 ghost use Rattle.vdr_vault.specs.Vaults.{AreRings};
@@ -157,9 +158,9 @@ impl Lanes {
         ensures open { recorder.new.is_open ≡ true }
         ensures config { recorder.new.vault.config ≡ recorder.old.vault.config }
         ensures rings { AreRings recorder.new.vault (M.disk media.new).sizes }
-        ensures others { M.tells → SameElsewhere (M.disk media.old).reads (M.disk media.new).reads }
+        ensures others { M.tells → SameElsewhere members (M.disk media.old).reads (M.disk media.new).reads }
         ensures sizes { (M.disk media.new).sizes ≡ (M.disk media.old).sizes }
-        ensures cause { HasCauseOnBoth (M.faults media.old) (M.faults media.new) result }
+        ensures cause { HasCauseOnBoth members (M.faults media.old) (M.faults media.new) result }
         ensures watched { IsWatched W.hears (W.seen watch.new) recorder.new (M.disk media.new) }
     {
         recorder.take_batch_watched(media, watch, self.batch.as_slice())?;

@@ -8,7 +8,7 @@ ghost use Rattle.vdr_durability.specs.Readings.{EndsMeet};
 ghost use Rattle.vdr_outside.specs.Causes.{Rose};
 ghost use Rattle.vdr_outside.specs.Disk.{SameBut};
 ghost use Rattle.vdr_media.specs.Formatted.{IsFormatted, IsUnformatted};
-ghost use Rattle.vdr_opening.specs.Media.{Contents, HoldsContents, members, reading_of};
+ghost use Rattle.vdr_opening.specs.Media.{Contents, HoldsContents, members_with, reading_of};
 ghost use Rattle.vdr_opening.specs.Refusals.{IsRefused};
 ghost use Rattle.vdr_vault.specs.Calls.{SameElsewhere};
 ghost use Rattle.vdr_vault.specs.Openings.{LeavesAll, WritesMissing};
@@ -38,7 +38,7 @@ fn record_feed<I: Source, M: Media, W: Watch<M>>(
     requires three { length (M.disk media.old).sizes ≤ 3 }
     ensures replayed { (x : Contents) (bytes : List ℕ) → M.tells → HoldsContents (M.disk media.old).reads x → AreSound x → I.left input.old ≡ Some bytes
         → Answers x bytes (I.left input.new) (Rose (sum (M.faults media.old)) (sum (M.faults media.new))) (M.disk media.old) (M.disk media.new) W.hears (W.seen watch.new) result }
-    ensures left { (x : Contents) → M.tells → HoldsContents (M.disk media.old).reads x → EndsMeet members (reading_of x) → AreSound x
+    ensures left { (x : Contents) → M.tells → HoldsContents (M.disk media.old).reads x → EndsMeet (members_with x.further) (reading_of x) → AreSound x
         → LeavesHistory x (Rose (sum (M.faults media.old)) (sum (M.faults media.new))) (M.disk media.old) (M.disk media.new) W.hears (W.seen watch.new) }
     ensures blank { M.tells → IsUnformatted (M.disk media.old).reads → LeavesAll (M.disk media.old) (M.disk media.new) }
     ensures header { TellsHeader (I.left input.old) (I.left input.new) result }
@@ -53,7 +53,7 @@ fn record_feed<I: Source, M: Media, W: Watch<M>>(
     ensures later { I.faults input.old ≤ I.faults input.new }
     ensures unformatted { result ≡ Err NotFormatted → M.tells → IsUnformatted (M.disk media.old).reads }
     ensures damaged { (m offset : ℕ) → result ≡ Err (Damaged m offset) → M.tells → IsFormatted (M.disk media.old).reads × IsRefused (M.disk media.old).reads m offset }
-    ensures others { M.tells → SameElsewhere (M.disk media.old).reads (M.disk media.new).reads }
+    ensures others { M.tells → SameElsewhere (members_with 0) (M.disk media.old).reads (M.disk media.new).reads }
     ensures sizes { (M.disk media.new).sizes ≡ (M.disk media.old).sizes }
     ensures cause { HasReplayCause (M.faults media.old) (M.faults media.new) result }
 {

@@ -4,6 +4,7 @@ ghost use Rattle.std.specs.Io.KnownBytes.{IsAtEnd};
 ghost use Rattle.vdr_core.specs.Histories.{Opening};
 ghost use Rattle.vdr_config.specs.Sizes.{limits_in};
 ghost use Rattle.vdr_outside.specs.Causes.{Rose};
+ghost use Rattle.vdr_media.specs.Formatted.{members};
 ghost use Rattle.vdr_vault.specs.Calls.{SameElsewhere};
 ghost use Rattle.vdr_vault.specs.Openings.{HasCauseOnBoth};
 ghost use Rattle.vdr_vault.specs.Vaults.{AreRings};
@@ -48,9 +49,9 @@ fn record_items<I: Source, M: Media, W: Watch<M>>(
     ensures later { I.faults input.old ≤ I.faults input.new }
     ensures works { OnOk result (recorder.new.vault.failed ≡ false) }
     ensures config { recorder.new.vault.config ≡ recorder.old.vault.config }
-    ensures others { M.tells → SameElsewhere (M.disk media.old).reads (M.disk media.new).reads }
+    ensures others { M.tells → SameElsewhere members (M.disk media.old).reads (M.disk media.new).reads }
     ensures sizes { (M.disk media.new).sizes ≡ (M.disk media.old).sizes }
-    ensures cause { HasCauseOnBoth (M.faults media.old) (M.faults media.new) result }
+    ensures cause { HasCauseOnBoth members (M.faults media.old) (M.faults media.new) result }
 {
     let end = take_all(recorder, media, watch, lanes, reader, input)?;
     lanes.record(recorder, media, watch)?;
@@ -84,7 +85,7 @@ pub(crate) fn record_run<I: Source, M: Media, W: Watch<M>>(
     ensures whole { IfOk result (λ r. r.end ≡ Whole → IsAtEnd (I.left input.new)) }
     ensures failed { IfOk result (λ r. r.end ≡ Input → Rose (I.faults input.old) (I.faults input.new)) }
     ensures later { I.faults input.old ≤ I.faults input.new }
-    ensures others { M.tells → SameElsewhere (M.disk media.old).reads (M.disk media.new).reads }
+    ensures others { M.tells → SameElsewhere members (M.disk media.old).reads (M.disk media.new).reads }
     ensures sizes { (M.disk media.new).sizes ≡ (M.disk media.old).sizes }
     ensures cause { HasReplayCause (M.faults media.old) (M.faults media.new) result }
 {

@@ -17,7 +17,7 @@ use Rattle.vdr_outside.specs.Disk.{Disk}
 use Rattle.vdr_config.specs.Configuration.{Selector}
 use Rattle.vdr_health.specs.Health.{nothing_gauged}
 use Rattle.vdr_health.specs.declared.gauged.Gauged.{Gauged}
-use Rattle.vdr_opening.specs.Media.{members}
+use Rattle.vdr_media.specs.Formatted.{members}
 use Rattle.vdr_vault.specs.Saves.{refusal_from, save_refusal}
 use Rattle.vdr_vault.specs.Vaults.{Stands, of_stamp}
 use Rattle.vdr_vault.specs.declared.refused.SaveRefused.{SaveRefused}
@@ -108,7 +108,7 @@ module _ {tells tells_images : Type 0} (opening : Opening) (events : List Event)
   -- each order after a fault
   pub failed_answer : (order : PlainOrder) → r.vault.failed ≡ true → text ≡ fault_line → (hears → heard ≡ was) → HasAnswered channels met_fault opening events t0 order text r r old old hears was heard
   failed_answer order fails is untold = still_answer order (done_told opening events t0 Look r old old
-      (look_done opening events t0 r old old h r.vault (same_disk old) refl refl refl refl refl (λ placed stands. stands)) {hears = hears} ALook was heard false (ap not fails) (λ works. refl) untold) (ap (λ (b : Bool). not b && is_granted order r.vault) fails) (inr fails) (spelled order (said_failed r.vault.failed old.clock (text_after nothing_gauged channels opening events order) fails))
+      (look_done opening events t0 r old old h r.vault (same_disk old) refl refl refl refl refl refl (λ placed stands. stands)) {hears = hears} ALook was heard false (ap not fails) (λ works. refl) untold) (ap (λ (b : Bool). not b && is_granted order r.vault) fails) (inr fails) (spelled order (said_failed r.vault.failed old.clock (text_after nothing_gauged channels opening events order) fails))
     where
       spelled : (order : PlainOrder) → text_at (moment_of r.vault.failed old.clock) (text_after nothing_gauged channels opening events order) ≡ fault_line
           → Spells met_fault order (text_at (moment_of r.vault.failed old.clock) (text_after nothing_gauged channels opening events order)) text

@@ -14,7 +14,9 @@ use Rattle.vdr_outside.proofs.Moments.{moments_after_reads, moments_weaken, unch
 use Rattle.vdr_config.specs.Configuration.{Selector}
 use Rattle.vdr_media.specs.Medium.{HoldsText}
 use Rattle.vdr_media.proofs.Rooms.{text_fits}
-use Rattle.vdr_media.proofs.Two.{of_each}
+use Rattle.vdr_media.proofs.Members.{of_each}
+use Rattle.vdr_media.specs.Formatted.{members}
+use Rattle.vdr_opening.specs.Answers.{further_on}
 use Rattle.vdr_opening.specs.Media.{HasFront}
 use Rattle.vdr_opening.specs.Parts.{HasRoomBefore}
 use Rattle.vdr_opening.proofs.ContentsHeld.{one_text}
@@ -38,7 +40,7 @@ use Rattle.vdr_reply.proofs.Told.{and_false, no_memory_answer}
 -- There is room for it on the capsule.
 pub room_before : (vault : VaultState) (sizes : List ℕ) → AreRings vault sizes → HasRoomBefore 0 sizes
 room_before vault sizes rings =
-    let its = of_each (λ k. IsRingOf vault.config sizes k (ring_of vault k)) rings.each 0 (omega arith) in
+    let its = of_each (λ k. IsRingOf vault.config sizes k (ring_of vault k)) (further_on vault.rings) rings.each 0 (omega arith) in
     let there = its.room.there in
     let room = its.room.room in
     record {
@@ -51,7 +53,7 @@ module _ {tells tells_images : Type 0} (opening : Opening) (events : List Event)
   front : HasFront 0 r.vault.config opening.settings.text (content disk.reads 0)
   front =
       let s = (h.works works).standing in
-      (of_each (λ m. HoldsHistory opening events r.vault.config m (ring_of r.vault m) (s.placed m) disk) s.stands.media 0 (omega arith)).front told
+      (of_each (λ m. HoldsHistory opening events r.vault.config m (ring_of r.vault m) (s.placed m) disk) (further_on r.vault.rings) s.stands.media 0 (omega arith)).front told
 
   short : length opening.settings.text ≤ 16380
   short = text_fits opening.settings.text r.vault.config front.configured.reads
@@ -77,8 +79,8 @@ module _ {tells tells_images : Type 0} (old mid : Disk tells tells_images) (same
   pub rings_still : (vault : VaultState) → AreRings vault old.sizes → AreRings vault mid.sizes
   rings_still vault rings = subst (λ (sizes : List ℕ). AreRings vault sizes) (sym same.sizes) rings
 
-  pub elsewhere_before : (reads : Image) → (tells → SameElsewhere mid.reads reads) → tells → SameElsewhere old.reads reads
-  elsewhere_before reads others told = subst (λ (image : Image). SameElsewhere image reads) (same.reads told) (others told)
+  pub elsewhere_before : (reads : Image) → (tells → SameElsewhere members mid.reads reads) → tells → SameElsewhere members old.reads reads
+  elsewhere_before reads others told = subst (λ (image : Image). SameElsewhere members image reads) (same.reads told) (others told)
 
   pub recorded_still : (opening : Opening) (events : List Event) (t0 : ℕ) (r : RecorderState) → HasRecorded opening events t0 r old → HasRecorded opening events t0 r mid
   recorded_still opening events t0 r h = record {

@@ -1,5 +1,5 @@
 -- What a file comes to as a reply of the history.
-use Rattle.std.proofs.Common.{◌≡◌, ◌⊎◌, inl, inr, ℕ, ℤ, Bool, true, false, true≢false, List, [], Option, Some, None, Result, Ok, Err, refl, sym, ap, ◌∙◌, subst}
+use Rattle.std.proofs.Common.{◌≡◌, ◌⊎◌, ◌-◌, inl, inr, ℕ, ℤ, Bool, true, false, true≢false, List, [], Option, Some, None, Result, Ok, Err, refl, sym, ap, ◌∙◌, subst}
 use Rattle.std.specs.Prelude.{All, ⊤}
 use Rattle.vdr_terms.specs.Queries.{Query}
 use Rattle.vdr_terms.specs.Records.{Record}
@@ -18,7 +18,7 @@ use Rattle.vdr_config.specs.Sizes.{sizes_of}
 use Rattle.vdr_directory.specs.Sequence.{segments_in}
 use Rattle.vdr_entry.specs.Queries.{asked_medium}
 use Rattle.vdr_entry.specs.declared.query.Medium.{Medium}
-use Rattle.vdr_opening.specs.Media.{members}
+use Rattle.vdr_media.specs.Formatted.{members, members_with}
 use Rattle.vdr_vault.specs.Vaults.{ShowsHistory}
 use Rattle.vdr_vault.proofs.Reading.{reads_keep}
 use Rattle.vdr_visit.specs.Refusals.{lacks_incident}
@@ -60,8 +60,8 @@ module _ {tells tells_images : Type 0} (query : Query) (r after : RecorderState)
       first = w.standing.first;
       stands = l.read.stands opening events w.standing.placed w.standing.stands;
       media = subst
-          (λ (c : Configuration). All (λ m. IsMediumOf (sizes_of c) (start_of_opening opening) (segments_in (w.standing.first m)) (acts_of events) (segments_in (w.standing.placed m))) members)
-          (sym stays.0) w.standing.media;
+          (λ (x : Configuration × ℕ). All (λ m. IsMediumOf (sizes_of x.0) (start_of_opening opening) (segments_in (w.standing.first m)) (acts_of events) (segments_in (w.standing.placed m))) (members_with (x.1 - 2)))
+          (λ i. (sym stays.0 i, sym l.read.vault.count i)) w.standing.media;
     };
     open_is = l.is_open ∙ w.open_is;
     makes = λ opened. subst (λ (x : Configuration × Maker). MakesBy x.0 (state_left opening events).start (state_left opening events).popped x.1) (λ i. (sym stays.0 i, sym l.maker i))

@@ -1,9 +1,8 @@
 -- What a play comes to as an answer of the history, in several turns.
-use Rattle.std.proofs.Common.{◌≡◌, ◌≢◌, ◌⊎◌, inl, inr, ◌++◌, ◌∷◌, ◌&&◌, not, ℕ, ℤ, Bool, true, false, List, [], Option, Some, None, Result, Ok, Err, length, cond, refl, sym, ap, ◌∙◌, subst, append_assoc, append-nil}
+use Rattle.std.proofs.Common.{◌≡◌, ◌⊎◌, inl, inr, ◌++◌, ◌∷◌, ℕ, ℤ, Bool, true, false, List, [], Option, Some, None, Result, Ok, Err, length, cond, refl, sym, ap, ◌∙◌, subst, append_assoc, append-nil}
 use Rattle.std.specs.Prelude.{IfOk, codes}
 use Rattle.std.proofs.lemmas.Bool.{cond-false}
-use Rattle.vdr_terms.specs.Queries.{Medium as Read, Query}
-use Rattle.vdr_terms.specs.Records.{Record}
+use Rattle.vdr_terms.specs.Queries.{Query}
 use Rattle.vdr_core.specs.Histories.{Act, Event, Opening, incidents}
 use Rattle.vdr_core.specs.Histories.Act.{Look}
 use Rattle.vdr_durability.specs.Keeping.{moment_of}
@@ -17,7 +16,7 @@ use Rattle.vdr_config.specs.Configuration.{Selector}
 use Rattle.vdr_entry.specs.Queries.{asked, asked_medium}
 use Rattle.vdr_entry.specs.declared.query.Medium.{Medium}
 use Rattle.vdr_health.specs.Health.{nothing_gauged}
-use Rattle.vdr_opening.specs.Media.{members}
+use Rattle.vdr_media.specs.Formatted.{members}
 use Rattle.vdr_ring.specs.declared.refused.ReadRefused.{ReadRefused}
 use Rattle.vdr_ring.specs.declared.refused.ReadRefused.TheVariants.{Damaged, Fault}
 use Rattle.vdr_vault.specs.Stretches.{still_selected}
@@ -35,7 +34,7 @@ use Rattle.vdr_reply.specs.declared.rest.Rest.{Rest}
 use Rattle.vdr_reply.specs.Answers.{HasAnswered, HasAnsweredSoFar, HasGoneOn, IsAnswer}
 use Rattle.vdr_reply.specs.Orders.{changes, granted_act, is_named, query_of, text_after}
 use Rattle.vdr_reply.specs.Plays.{BeginsPlay, EndsTurn, HasBegun, IsWaiting}
-use Rattle.vdr_reply.specs.Texts.{done_line, fault_line, gone_line, not_there_line, page_text, text_of}
+use Rattle.vdr_reply.specs.Texts.{done_line, fault_line, gone_line, not_there_line, text_of}
 use Rattle.vdr_reply.proofs.Answered.{looked_answer, page_is, said_working, still_answer}
 use Rattle.vdr_reply.proofs.Told.{and_false, asked_within, lacks_not, there_or_not}
 

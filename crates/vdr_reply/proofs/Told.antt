@@ -9,15 +9,13 @@ use Rattle.vdr_durability.specs.Keeping.{moment_of}
 use Rattle.vdr_durability.specs.Playback.{selected}
 use Rattle.vdr_durability.specs.Replies.{is_there, play_reply, refusal_of}
 use Rattle.vdr_durability.specs.Replies.Reply.{NoIncident}
-use Rattle.vdr_play.specs.Streams.{nothing_seen}
-use Rattle.vdr_play.specs.Texts.{records_text}
 use Rattle.vdr_outside.specs.Disk.{Disk}
 use Rattle.vdr_config.specs.Configuration.{Selector}
 use Rattle.vdr_health.specs.Health.{nothing_gauged}
 use Rattle.vdr_entry.specs.Queries.{asked_medium}
 use Rattle.vdr_entry.specs.declared.query.Medium.{Medium}
 use Rattle.vdr_entry.specs.declared.query.Medium.TheVariants.{Capsule, LongTerm, Incident as AnIncident}
-use Rattle.vdr_opening.specs.Media.{members}
+use Rattle.vdr_media.specs.Formatted.{members}
 use Rattle.vdr_control.specs.Orders.{PlainOrder}
 use Rattle.vdr_control.specs.Orders.PlainOrder.{Status as StatusOrder, Save as SaveOrder, Release as ReleaseOrder, Incidents as IncidentsOrder, Play as PlayOrder, Evidence as EvidenceOrder, Tell as TellOrder}
 use Rattle.vdr_control.specs.Orders.PlainOrder.{Health as HealthOrder}

@@ -10,9 +10,7 @@ use Rattle.vdr_base64.specs.Lines.{lines_of}
 use Rattle.vdr_config.specs.Configuration.{Selector}
 use Rattle.vdr_entry.specs.Queries.{asked_medium}
 use Rattle.vdr_entry.specs.declared.query.Medium.{Medium}
-use Rattle.vdr_opening.specs.Media.{members}
-use Rattle.vdr_play.specs.Streams.{nothing_seen}
-use Rattle.vdr_play.specs.Texts.{records_text}
+use Rattle.vdr_media.specs.Formatted.{members}
 use Rattle.vdr_control.specs.Orders.{PlainOrder}
 use Rattle.vdr_control.specs.Orders.PlainOrder.{Status, Save, Release, Incidents, Play, Evidence, Tell}
 use Rattle.vdr_control.specs.Orders.PlainOrder.{Health}

@@ -7,7 +7,7 @@ use Rattle.vdr_durability.specs.Playback.{selected}
 use Rattle.vdr_durability.specs.Replies.{is_there}
 use Rattle.vdr_config.specs.Configuration.{Selector}
 use Rattle.vdr_entry.specs.Queries.{asked}
-use Rattle.vdr_opening.specs.Media.{members}
+use Rattle.vdr_media.specs.Formatted.{members}
 use Rattle.vdr_play.specs.Streams.{nothing_seen}
 use Rattle.vdr_play.specs.Texts.{records_text}
 use Rattle.vdr_ring.specs.declared.refused.ReadRefused.{ReadRefused}

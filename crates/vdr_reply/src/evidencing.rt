@@ -10,6 +10,7 @@ ghost use Rattle.vdr_directory.specs.Opening.{HasFaultCause};
 ghost use Rattle.vdr_entry.specs.Queries.{asked};
 ghost use Rattle.vdr_media.specs.Medium.{HoldsText};
 ghost use Rattle.vdr_opening.specs.Parts.{HasRoomBefore};
+ghost use Rattle.vdr_media.specs.Formatted.{members};
 ghost use Rattle.vdr_vault.specs.Calls.{SameElsewhere};
 ghost use Rattle.vdr_vault.specs.Vaults.{AreRings};
 ghost use Rattle.vdr_base64.specs.Lines.{left_over};
@@ -97,7 +98,7 @@ pub(crate) fn answer_evidence<M: Media, W: Watch<M>>(
         (EvidenceOrder id) result recorder.old recorder.new (M.disk media.old) (M.disk media.new) W.hears (W.seen watch.old) (W.seen watch.new) }
     ensures rest { LeavesRest recorder.old recorder.new }
     ensures rings { AreRings recorder.new.vault (M.disk media.new).sizes }
-    ensures others { M.tells → SameElsewhere (M.disk media.old).reads (M.disk media.new).reads }
+    ensures others { M.tells → SameElsewhere members (M.disk media.old).reads (M.disk media.new).reads }
     ensures sizes { (M.disk media.new).sizes ≡ (M.disk media.old).sizes }
     ensures watched { IsWatched W.hears (W.seen watch.new) recorder.new (M.disk media.new) }
     ensures cause { HasOrderCause recorder.old.vault.failed recorder.new.vault.failed (M.faults media.old) (M.faults media.new) }

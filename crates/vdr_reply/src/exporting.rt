@@ -8,6 +8,7 @@ ghost use Rattle.vdr_core.specs.Histories.{Event, Opening};
 ghost use Rattle.vdr_outside.specs.Causes.{Rose};
 ghost use Rattle.vdr_entry.specs.Queries.{asked};
 ghost use Rattle.vdr_entry.specs.declared.query.Medium.{Medium as AMedium};
+ghost use Rattle.vdr_media.specs.Formatted.{members};
 ghost use Rattle.vdr_vault.specs.Calls.{SameElsewhere};
 ghost use Rattle.vdr_vault.specs.Vaults.{AreRings};
 ghost use Rattle.vdr_visit.specs.Refusals.{lacks_channel, lacks_incident};
@@ -92,7 +93,7 @@ fn export<M: Media, W: Watch<M>>(
         (ExportOrder medium name from to exporting) result recorder.old recorder.new (M.disk media.old) (M.disk media.new) W.hears (W.seen watch.old) (W.seen watch.new) }
     ensures rest { LeavesRest recorder.old recorder.new }
     ensures rings { AreRings recorder.new.vault (M.disk media.new).sizes }
-    ensures others { M.tells → SameElsewhere (M.disk media.old).reads (M.disk media.new).reads }
+    ensures others { M.tells → SameElsewhere members (M.disk media.old).reads (M.disk media.new).reads }
     ensures sizes { (M.disk media.new).sizes ≡ (M.disk media.old).sizes }
     ensures watched { IsWatched W.hears (W.seen watch.new) recorder.new (M.disk media.new) }
     ensures cause { HasOrderCause recorder.old.vault.failed recorder.new.vault.failed (M.faults media.old) (M.faults media.new) }
@@ -120,7 +121,7 @@ pub(crate) fn answer_export<M: Media, W: Watch<M>>(
         (ExportOrder wanted.entry.medium wanted.entry.name.now wanted.entry.from wanted.entry.to exporting) result recorder.old recorder.new (M.disk media.old) (M.disk media.new) W.hears (W.seen watch.old) (W.seen watch.new) }
     ensures rest { LeavesRest recorder.old recorder.new }
     ensures rings { AreRings recorder.new.vault (M.disk media.new).sizes }
-    ensures others { M.tells → SameElsewhere (M.disk media.old).reads (M.disk media.new).reads }
+    ensures others { M.tells → SameElsewhere members (M.disk media.old).reads (M.disk media.new).reads }
     ensures sizes { (M.disk media.new).sizes ≡ (M.disk media.old).sizes }
     ensures watched { IsWatched W.hears (W.seen watch.new) recorder.new (M.disk media.new) }
     ensures cause { HasOrderCause recorder.old.vault.failed recorder.new.vault.failed (M.faults media.old) (M.faults media.new) }

@@ -5,6 +5,7 @@ ghost use Rattle.std.specs.Prelude.{◌≡◌, ◌≤◌, ◌<◌, ◌+◌, ◌+
 ghost use Rattle.vdr_core.specs.Histories.{Act, Event, Opening};
 ghost use Rattle.vdr_durability.specs.Keeping.{moment_of};
 ghost use Rattle.vdr_outside.specs.Causes.{Rose};
+ghost use Rattle.vdr_media.specs.Formatted.{members};
 ghost use Rattle.vdr_vault.specs.Calls.{SameElsewhere};
 ghost use Rattle.vdr_vault.specs.Vaults.{AreRings};
 ghost use Rattle.vdr_recorder.specs.Recordings.{HasRecorded};
@@ -71,7 +72,7 @@ pub fn go_on<M: Media, W: Watch<M>>(
         → HasGoneOn recorder.old.vault.config.channels (Rose (sum (M.faults media.old)) (sum (M.faults media.new))) opening a later (moment_of recorder.new.vault.failed (M.disk media.new).clock) piece.new.bytes.items result }
     ensures rest { LeavesRest recorder.old recorder.new }
     ensures rings { AreRings recorder.new.vault (M.disk media.new).sizes }
-    ensures others { M.tells → SameElsewhere (M.disk media.old).reads (M.disk media.new).reads }
+    ensures others { M.tells → SameElsewhere members (M.disk media.old).reads (M.disk media.new).reads }
     ensures sizes { (M.disk media.new).sizes ≡ (M.disk media.old).sizes }
     ensures watched { IsWatched W.hears (W.seen watch.new) recorder.new (M.disk media.new) }
     ensures cause { HasOrderCause recorder.old.vault.failed recorder.new.vault.failed (M.faults media.old) (M.faults media.new) }

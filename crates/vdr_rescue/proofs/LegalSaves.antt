@@ -1,8 +1,8 @@
 -- The incident slots of a long-term medium that holds a table, and the places of live incidents.
-use Rattle.std.proofs.Common.{◌≡◌, ◌<◌, ◌≤◌, ◌+◌, ℕ, zero, suc, List, [], ◌∷◌, ◌++◌, length, take, get_or, All, Contains, Option, Some, None, ⊎_elim, refl, sym, ap, ◌∙◌, subst, arith}
-use Rattle.std.specs.Prelude.{Any, IfSome}
+use Rattle.std.proofs.Common.{◌≡◌, ◌≢◌, ◌==◌, ◌<◌, ◌≤◌, ◌+◌, ℕ, zero, suc, List, [], ◌∷◌, ◌++◌, length, take, get_or, All, Contains, Option, Some, None, ⊎_elim, refl, sym, ap, ◌∙◌, subst, arith}
+use Rattle.std.specs.Prelude.{Any, IfSome, Bool, true, false, if◌then◌else◌}
 use Rattle.std.proofs.Math.Seq.{take-length, take-suc}
-use Rattle.std.proofs.lemmas.Bool.{cases_eq}
+use Rattle.std.proofs.lemmas.Bool.{cases_eq, eqb-false, eqb-true}
 use Rattle.std.proofs.lemmas.List.Elements.{All-contains, All-head, All-tail, Contains-append_cases}
 use Rattle.std.proofs.lemmas.Option.{get_or_from_slice_get, slice_get-get_or}
 use Rattle.vdr_terms.specs.Records.{Record}
@@ -17,7 +17,7 @@ use Rattle.vdr_directory.specs.Order.{HasPlace, RunsOn}
 use Rattle.vdr_directory.specs.Sequence.{Placed, all_records, first_of, records_of}
 use Rattle.vdr_incident.specs.Saves.{IsIncidentSlot}
 use Rattle.vdr_incident.specs.Tables.{HoldsTable, place_of}
-use Rattle.vdr_opening.specs.Media.{Contents, HoldsContents, members}
+use Rattle.vdr_opening.specs.Media.{Contents, HoldsContents, members_with}
 use Rattle.vdr_rescue.specs.declared.lacking.Places.{Places}
 use Rattle.vdr_rescue.specs.Saves.{AreSaves, SavesState, no_saves, pin_in, saved_slots, with_save}
 use Rattle.vdr_rescue.proofs.OneAnswer.{saved_once}
@@ -71,17 +71,11 @@ pub record AreSavesOf (y : Contents) (m : ℕ) (s : SavesState) : Type 0 where
   pub table : m ≡ 1 → s.table ≡ y.table
   pub held : (pin : Places) → Contains s.pins pin → (pin.a ≤ pin.b) × HoldAll pin.a pin.b (y.placed m)
 
-pub saves_here : (image : Image) (y : Contents) (m : ℕ) (s : SavesState) → HoldsContents image y → Contains members m → AreSaves (content image m) (saved_slots m y.config) s → AreSavesOf y m s
-saves_here image y m s holds m_in are = ⊎_elim
-    (λ (e : 0 ≡ m). subst (λ (k : ℕ). AreSavesOf y k s) e (none_here (subst (λ (k : ℕ). AreSaves (content image k) (saved_slots k y.config) s) (sym e) are)))
-    (λ (n : Contains (1 ∷ []) m). ⊎_elim
-    (λ (e : 1 ≡ m). subst (λ (k : ℕ). AreSavesOf y k s) e (all_here (subst (λ (k : ℕ). AreSaves (content image k) (saved_slots k y.config) s) (sym e) are)))
-    (λ (n : Contains [] m). absurd (none_contained m n))
-    (contains_cases 1 [] m n))
-    (contains_cases 0 (1 ∷ []) m m_in)
+pub saves_here : (image : Image) (y : Contents) (m : ℕ) (s : SavesState) → HoldsContents image y → Contains (members_with y.further) m → AreSaves (content image m) (saved_slots m y.config) s → AreSavesOf y m s
+saves_here image y m s holds there are = by (m == 1) refl
   where
-    none_here : s ≡ no_saves → AreSavesOf y 0 s
-    none_here is = subst (AreSavesOf y 0) (sym is) (record { bad = refl; table = λ e. absurd (omega (arith, e)); held = λ pin m. absurd (none_contained pin m) })
+    none_here : m ≢ 1 → s ≡ no_saves → AreSavesOf y m s
+    none_here other none = subst (AreSavesOf y m) (sym none) (record { bad = refl; table = λ e. absurd (other e); held = λ pin here. absurd (none_contained pin here) })
 
     all_here : AreSaves (content image 1) y.config.incident_slots s → AreSavesOf y 1 s
     all_here saved =
@@ -98,6 +92,12 @@ saves_here image y m s holds m_in are = ⊎_elim
               let order = p.order in
               (omega (arith, a, b, order), λ place low high. there place (omega (arith, a, low)) (omega (arith, b, high)));
         }
+
+    by : (long_term : Bool) → (m == 1) ≡ long_term → AreSavesOf y m s
+    by true is =
+        let at : m ≡ 1 = eqb-true m 1 is in
+        subst (λ (k : ℕ). AreSavesOf y k s) (sym at) (all_here (subst (λ (k : ℕ). AreSaves (content image k) (saved_slots k y.config) s) at are))
+    by false is = none_here (eqb-false m 1 is) (subst (λ (long_term : Bool). AreSaves (content image m) (if long_term then y.config.incident_slots else 0) s) is are)
 
 -- A place in a segment is that of a record
 

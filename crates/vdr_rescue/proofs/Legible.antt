@@ -20,7 +20,7 @@ use Rattle.vdr_directory.specs.Lookup.{HoldAll}
 use Rattle.vdr_directory.specs.Order.{HasPlace, RunsOn}
 use Rattle.vdr_directory.specs.Sequence.{Placed, all_records}
 use Rattle.vdr_directory.proofs.Known.{runs_on}
-use Rattle.vdr_opening.specs.Media.{Contents, HoldsConfigText, HoldsContents, IsMedium, members}
+use Rattle.vdr_opening.specs.Media.{Contents, HoldsConfigText, HoldsContents, IsMedium, members_with}
 use Rattle.vdr_rescue.specs.declared.findings.Finding.{Finding}
 use Rattle.vdr_rescue.specs.declared.findings.Finding.TheVariants.{Closed}
 use Rattle.vdr_rescue.specs.declared.found.Found.TheVariants.{Whole}
@@ -178,9 +178,9 @@ module _ (m : ℕ) (c : Configuration) (text : List ℕ) (placed : List Placed) 
 
 -- Legible media
 
-module _ (image : Image) (y : Contents) (m : ℕ) (holds : HoldsContents image y) (there : Contains members m) where
+module _ (image : Image) (y : Contents) (m : ℕ) (holds : HoldsContents image y) (there : Contains (members_with y.further) m) where
   the_medium : IsMedium m y.config y.text (y.placed m) (content image m)
-  the_medium = All-contains (λ m. IsMedium m y.config y.text (y.placed m) (content image m)) members m holds.media there
+  the_medium = All-contains (λ m. IsMedium m y.config y.text (y.placed m) (content image m)) (members_with y.further) m holds.media there
 
   pub legible_opens : (offset : ℕ) → RefusesAlone m (content image m) offset → ⊥
   legible_opens offset r = never_refused m y.config y.text (y.placed m) (content image m) the_medium offset r

@@ -1,5 +1,5 @@
 -- A medium with a life that is read alone.
-use Rattle.std.proofs.Common.{◌≡◌, ◌⊎◌, ◌<◌, ◌≤◌, ◌+◌, ◌&&◌, ℕ, Bool, true, false, List, [], ◌∷◌, ◌++◌, filter, get_or, Any, Contains, Option, Some, None, inl, inr, ⊎_elim, refl, sym, ap, ◌∙◌, subst, arith, append-nil}
+use Rattle.std.proofs.Common.{◌≡◌, ◌⊎◌, ◌<◌, ◌≤◌, ◌&&◌, ℕ, Bool, true, false, List, [], ◌∷◌, ◌++◌, filter, get_or, Any, Contains, Option, Some, None, inl, inr, ⊎_elim, refl, sym, ap, ◌∙◌, subst, arith, append-nil}
 use Rattle.std.specs.Prelude.{if◌then◌else◌, nat_le}
 use Rattle.std.proofs.lemmas.Bool.{and_parts, cases_Bool, cond-false, leb-true}
 use Rattle.std.proofs.lemmas.List.Elements.{All-contains, filter-append}
@@ -25,7 +25,7 @@ use Rattle.vdr_directory.specs.Sequence.{all_records, batches_in}
 use Rattle.vdr_incident.specs.Saves.{IsIncidentSlot}
 use Rattle.vdr_incident.specs.Tables.{place_of}
 use Rattle.vdr_media.specs.Formatted.{IsUnformatted}
-use Rattle.vdr_opening.specs.Media.{Contents, HoldsContents, members, opening_of, reading_of, slots_on}
+use Rattle.vdr_opening.specs.Media.{Contents, HoldsContents, members_with, opening_of, reading_of, slots_on}
 use Rattle.vdr_opening.proofs.ContentsHeld.{are_formatted}
 use Rattle.vdr_ring.proofs.Records.{records_are}
 use Rattle.vdr_vault.specs.Lives.{Life}
@@ -92,41 +92,41 @@ save_order image y incident holds m =
     let is : get_or y.table at None ≡ Some incident = get_or_from_slice_get y.table at (Some incident) None (slice_get-get_or y.table at (Some incident) m.1 ∙ ap (λ (o : Option Incident). Some o) m.2) in
     (subst (λ (o : Option Incident). IsIncidentSlot (part (content image 1) (place_of at) 256) o) is (holds.table.each.each at None m.1)).1.legal.order
 
-module _ (image : Image) (y : Contents) (m : ℕ) (holds : HoldsContents image y) (there : Contains members m) (ours : IsOurs image) where
-  meet_and_sound : EndsMeet members (reading_of y) × AreSound y
+module _ (image : Image) (y : Contents) (m : ℕ) (holds : HoldsContents image y) (there : Contains (members_with y.further) m) (ours : IsOurs image) where
+  meet_and_sound : EndsMeet (members_with y.further) (reading_of y) × AreSound y
   meet_and_sound = ⊎_elim
       (λ (none : IsUnformatted image). absurd (are_formatted image y holds none))
-      (λ (o : (x : Contents) × HoldsContents image x × EndsMeet members (reading_of x) × AreSound x). sound_as image o.0 y o.1 holds (o.2, o.3))
+      (λ (o : (x : Contents) × HoldsContents image x × EndsMeet (members_with x.further) (reading_of x) × AreSound x). sound_as image o.0 y o.1 holds (o.2, o.3))
       ours
 
   pub lacking_here : List Record
-  lacking_here = lacking_of (leading_batch members (reading_of y)) (batches_in (y.placed m))
+  lacking_here = lacking_of (leading_batch (members_with y.further) (reading_of y)) (batches_in (y.placed m))
 
-  pub restored_here : records_on (restored members (reading_of y)) m ≡ all_records (y.placed m) ++ lacking_here
+  pub restored_here : records_on (restored (members_with y.further) (reading_of y)) m ≡ all_records (y.placed m) ++ lacking_here
   unfolding lacking_here
-  restored_here = with_lacking (leading_batch members (reading_of y)) (batches_in (y.placed m)) ∙ ap (λ (rs : List Record). rs ++ lacking_of (leading_batch members (reading_of y)) (batches_in (y.placed m))) (records_are (y.placed m))
+  restored_here = with_lacking (leading_batch (members_with y.further) (reading_of y)) (batches_in (y.placed m)) ∙ ap (λ (rs : List Record). rs ++ lacking_of (leading_batch (members_with y.further) (reading_of y)) (batches_in (y.placed m))) (records_are (y.placed m))
 
   pub order_here : AreInOrder (all_records (y.placed m) ++ lacking_here)
-  order_here = subst AreInOrder restored_here (All-contains (IsRegularMedium y) members m meet_and_sound.1.regular there).order
+  order_here = subst AreInOrder restored_here (All-contains (IsRegularMedium y) (members_with y.further) m meet_and_sound.1.regular there).order
 
   pub none_here : EndsWithLast y m → lacking_here ≡ []
   unfolding lacking_here
-  none_here e = none_lacks (leading_batch members (reading_of y)) (batches_in (y.placed m))
-      (subst AreInOrder (sym (records_are (y.placed m))) (parts_in_order (all_records (y.placed m)) (lacking_of (leading_batch members (reading_of y)) (batches_in (y.placed m))) order_here).0) e
+  none_here e = none_lacks (leading_batch (members_with y.further) (reading_of y)) (batches_in (y.placed m))
+      (subst AreInOrder (sym (records_are (y.placed m))) (parts_in_order (all_records (y.placed m)) (lacking_of (leading_batch (members_with y.further) (reading_of y)) (batches_in (y.placed m))) order_here).0) e
 
   pub at_most_here : (lacking_here ≡ []) ⊎ (last (batches_in (y.placed 0)) ≡ Some lacking_here)
   unfolding lacking_here
-  at_most_here = at_most_last (leading_batch members (reading_of y)) (batches_in (y.placed m))
+  at_most_here = at_most_last (leading_batch (members_with y.further) (reading_of y)) (batches_in (y.placed m))
 
   -- It lacks nothing, with the last batch or without.
   keeps_here : KeepsAll (window_of y.config m) (slots_on y.config image m) (y.placed m)
-  keeps_here = keeps_all y m (slots_on y.config image m) (All-contains (λ m. y.filled m ≡ is_filled (slots_on y.config image m) (y.placed m)) members m holds.filled there)
-      (All-contains (LacksNothing y) members m meet_and_sound.1.kept there)
+  keeps_here = keeps_all y m (slots_on y.config image m) (All-contains (λ m. y.filled m ≡ is_filled (slots_on y.config image m) (y.placed m)) (members_with y.further) m holds.filled there)
+      (All-contains (LacksNothing y) (members_with y.further) m meet_and_sound.1.kept there)
 
   pub ours_find : (x : Rescue) → Rescued m (content image m) x → FindsNothing x
   ours_find x k = legible_finds image y m holds there x k keeps_here
 
-module _ (c : Configuration) (text : List ℕ) (all : List Event) (image : Image) (y : Contents) (m : ℕ) (x : Rescue) (life : Life c text all image) (holds : HoldsContents image y) (there : Contains members m) (k : Rescued m (content image m) x) where
+module _ (c : Configuration) (text : List ℕ) (all : List Event) (image : Image) (y : Contents) (m : ℕ) (x : Rescue) (life : Life c text all image) (holds : HoldsContents image y) (there : Contains (members_with y.further) m) (k : Rescued m (content image m) x) where
   gives : GivesAll y m x
   gives = legible_gives image y m holds there x k
 
@@ -194,7 +194,7 @@ module _ (query : Query) (c : Configuration) (table : List (Option Incident)) (g
       ∙ ap (λ (t : List (Option Incident)). filter (matches query) (records_of_incident (live t id) given)) (sym (tables refl))
       ∙ ap (λ (rs : List Record). filter (matches query) (records_of_incident (live opening.table id) rs)) (sym are ∙ sym (append-nil (opening.records 1)))
 
-pub plays_same : (image : Image) (y : Contents) (x : Rescue) (query : Query) → IsOurs image → HoldsContents image y → Contains members (medium_of query.medium) → Rescued (medium_of query.medium) (content image (medium_of query.medium)) x
+pub plays_same : (image : Image) (y : Contents) (x : Rescue) (query : Query) → IsOurs image → HoldsContents image y → Contains (members_with y.further) (medium_of query.medium) → Rescued (medium_of query.medium) (content image (medium_of query.medium)) x
     → EndsWithLast y (medium_of query.medium) → HasNoOlder y.config x.given query.medium → selected_of x query ≡ selected (opening_of y) [] query
 plays_same image y x query ours holds there k ends none =
     let m = medium_of query.medium in

@@ -16,7 +16,7 @@ ghost use Rattle.vdr_rescue.specs.declared.findings.Finding.{Finding as AFinding
 ghost use Rattle.vdr_rescue.specs.declared.told.Told.{Told as ATold};
 ghost use Rattle.vdr_terms.specs.Queries.{Query};
 ghost use Rattle.vdr_rescue.specs.Alones.{AloneState, IsAloneOn, IsReadThrough, IsSameMedium, RefusesAlone, Rescue, Rescued, Selects, account_of, selected_of};
-ghost use Rattle.vdr_opening.specs.Media.{Contents, HoldsContents, members, opening_of, slots_on};
+ghost use Rattle.vdr_opening.specs.Media.{Contents, HoldsContents, members_with, opening_of, slots_on};
 ghost use Rattle.vdr_rescue.specs.Findings.{AreFindings};
 ghost use Rattle.vdr_rescue.specs.Given.{GivenBy};
 ghost use Rattle.vdr_rescue.specs.Legible.{FindsNothing, GivesAll};
@@ -53,11 +53,11 @@ pub fn law_of_alone()
 /// is missing or damaged on one that lacks nothing of what it is to keep.
 pub fn law_of_legible()
     ensures opens { (image : Image) (y : Contents) (m offset : ℕ) → HoldsContents image y
-        → Contains members m → RefusesAlone m (content image m) offset → ⊥ }
+        → Contains (members_with y.further) m → RefusesAlone m (content image m) offset → ⊥ }
     ensures gives { (image : Image) (y : Contents) (m : ℕ) (x : Rescue) → HoldsContents image y
-        → Contains members m → Rescued m (content image m) x → GivesAll y m x }
+        → Contains (members_with y.further) m → Rescued m (content image m) x → GivesAll y m x }
     ensures finds { (image : Image) (y : Contents) (m : ℕ) (x : Rescue) → HoldsContents image y
-        → Contains members m → Rescued m (content image m) x
+        → Contains (members_with y.further) m → Rescued m (content image m) x
         → KeepsAll (window_of y.config m) (slots_on y.config image m) (y.placed m) → FindsNothing x }
 {}
 
@@ -69,12 +69,12 @@ pub fn law_of_legible()
 pub fn law_of_rescue()
     ensures gives { (c : Configuration) (text : List ℕ) (all : List Event) (image : Image)
         (y : Contents) (m : ℕ) (x : Rescue) → Life c text all image → HoldsContents image y
-        → Contains members m → Rescued m (content image m) x → RescuesLife c text all y m x }
+        → Contains (members_with y.further) m → Rescued m (content image m) x → RescuesLife c text all y m x }
     ensures finds { (image : Image) (y : Contents) (m : ℕ) (x : Rescue) → IsOurs image
-        → HoldsContents image y → Contains members m → Rescued m (content image m) x
+        → HoldsContents image y → Contains (members_with y.further) m → Rescued m (content image m) x
         → FindsNothing x }
     ensures plays { (image : Image) (y : Contents) (x : Rescue) (query : Query) → IsOurs image
-        → HoldsContents image y → Contains members (medium_of query.medium)
+        → HoldsContents image y → Contains (members_with y.further) (medium_of query.medium)
         → Rescued (medium_of query.medium) (content image (medium_of query.medium)) x
         → EndsWithLast y (medium_of query.medium) → HasNoOlder y.config x.given query.medium
         → selected_of x query ≡ selected (opening_of y) [] query }

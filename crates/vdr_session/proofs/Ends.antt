@@ -31,6 +31,7 @@ use Rattle.vdr_capture.specs.declared.lane.Lane.{Lane}
 use Rattle.vdr_capture.specs.declared.sums.Outcome.{Outcome}
 use Rattle.vdr_capture.specs.declared.sums.Outcome.TheVariants.{Done, MediaFault}
 use Rattle.vdr_capture.specs.Gives.{EndsBy}
+use Rattle.vdr_opening.specs.Media.{members_with}
 use Rattle.vdr_vault.specs.Calls.{SameElsewhere}
 use Rattle.vdr_run.specs.Making.{CountsItems, counted_of}
 use Rattle.vdr_recorder.specs.Recordings.{HasRecorded, RecorderState, start_of_opening}
@@ -194,7 +195,7 @@ module _ {P : Type 0} (port_tells : PortTells P) {tells tells_images : Type 0} (
     works_here works = no_fault marks (k.stage.whole works)
 
     -- What a stop leaves.
-    module _ (w' : Watched) (after : RecorderState) (end : Disk tells tells_images) (later : List ℕ) (still : end.sizes ≡ disk.sizes) (elsewhere : tells → SameElsewhere disk.reads end.reads) (falls : NoneFalls now later)
+    module _ (w' : Watched) (after : RecorderState) (end : Disk tells tells_images) (later : List ℕ) (still : end.sizes ≡ disk.sizes) (elsewhere : tells → SameElsewhere (members_with 0) disk.reads end.reads) (falls : NoneFalls now later)
         (stopped : (opening : Opening) (events : List Event) (t0 : ℕ) → tells → r.vault.failed ≡ false → HasRecorded opening events t0 r disk
         → DoneAndTold before.hears opening events t0 (Commit (closing (state_left opening events).start (recorder_in (state_left opening events)) rest) []) after disk end w w')
         (counted : (start : RunStart) (popped : List Captured) → CountsItems start popped r.maker → CountsItems start popped after.maker) where
@@ -235,7 +236,7 @@ module _ {P : Type 0} (port_tells : PortTells P) {tells tells_images : Type 0} (
             (λ (rose : Rose (sum now) (sum later)). rose_after (sum faults) (sum now) (sum later) (sum_not_less faults now k.later.same_media k.later.none_falls) rose)
             (cause e);
         sizes_are = still ∙ k.sizes_are;
-        elsewhere = λ told n ne ne1. elsewhere told n ne ne1 ∙ k.elsewhere told n ne ne1;
+        elsewhere = λ told n apart. elsewhere told n apart ∙ k.elsewhere told n apart;
         told = λ told opening t0 b. (run told opening t0 (k.told told opening t0 b), means told opening t0 b);
       }
 

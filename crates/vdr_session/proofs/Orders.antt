@@ -1,5 +1,5 @@
 -- A recorder under the latch after the order of a desk.
-use Rattle.std.proofs.Common.{◌≡◌, ◌⊎◌, inl, inr, ◌<◌, ◌+◌, ◌-◌, ◌^◌, ◌++◌, ◌∷◌, ◌≢◌, ◌&&◌, not, is_some, ℕ, ℤ, Bool, true, false, true≢false, List, [], length, cond, option_map, Some, None, refl, sym, ap, ◌∙◌, subst, arith}
+use Rattle.std.proofs.Common.{◌≡◌, ◌⊎◌, inl, inr, ◌<◌, ◌+◌, ◌-◌, ◌^◌, ◌++◌, ◌∷◌, ◌≢◌, ◌&&◌, is_some, ℕ, ℤ, Bool, true, false, true≢false, List, [], length, cond, option_map, Some, None, refl, sym, ap, ◌∙◌, subst, arith}
 use Rattle.std.specs.Prelude.{min, sum}
 use Rattle.std.proofs.lemmas.Bool.{cases_Bool, le-leb, leb-true}
 use Rattle.vdr_terms.specs.Counting.{next_number}

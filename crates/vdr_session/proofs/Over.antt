@@ -1,5 +1,5 @@
 -- An answer at the marks of its turns, and in the history that they tell.
-use Rattle.std.proofs.Common.{◌≡◌, ◌+◌, ◌++◌, ◌∷◌, ℕ, suc, false, List, [], None, length, get_or, drop, map, refl, sym, ap, ◌∙◌, subst, arith, append_assoc, append-nil}
+use Rattle.std.proofs.Common.{◌≡◌, ◌+◌, ◌++◌, ◌∷◌, ℕ, suc, false, List, [], None, length, get_or, drop, map, refl, sym, ap, ◌∙◌, arith, append_assoc, append-nil}
 use Rattle.std.proofs.Math.Seq.{drop-append_seam}
 use Rattle.std.proofs.lemmas.List.{get_or-append-add, length-append, length-map, map-append, nil_from_length}
 use Rattle.vdr_core.specs.Histories.{Event, Opening}

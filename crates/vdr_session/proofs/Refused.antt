@@ -96,7 +96,7 @@ module _ {P : Type 0} (port_tells : PortTells P) {tells tells_images : Type 0} (
     later = subst (λ (fs : List ℕ). NoneFalls fs now) faults_are (none_fell now);
     rose = λ e. absurd (no_media e);
     sizes_are = sizes_are;
-    elsewhere = λ told n ne ne1. ap (λ (image : Image). content image n) was.3;
+    elsewhere = λ told n apart. ap (λ (image : Image). content image n) was.3;
     told = λ told opening t0 b. (ends outcome never opening t0 b, means opening t0 b);
   }
 

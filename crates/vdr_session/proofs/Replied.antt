@@ -1,8 +1,7 @@
 -- What was replied at the desks of a session, in its history.
-use Rattle.std.proofs.Common.{◌≡◌, ◌⊎◌, inl, inr, ◌≤◌, ◌<◌, ◌+◌, ◌++◌, ◌∷◌, ℕ, Bool, true, false, List, [], Some, None, length, get_or, refl, sym, ap, ◌∙◌, subst, arith, append_assoc, append-nil}
+use Rattle.std.proofs.Common.{◌≡◌, ◌⊎◌, inl, inr, ◌≤◌, ◌<◌, ◌+◌, ◌++◌, ◌∷◌, ℕ, Bool, true, false, List, [], Some, None, length, get_or, refl, sym, ap, ◌∙◌, subst, arith, append_assoc}
 use Rattle.std.proofs.lemmas.List.{length-append}
 use Rattle.vdr_core.specs.Histories.{Event, Opening}
-use Rattle.vdr_core.specs.Taken.{Captured}
 use Rattle.vdr_terms.specs.declared.counts.Counts.{Counts}
 use Rattle.vdr_outside.specs.declared.link.Link.{Ghosts as LinkTells}
 use Rattle.vdr_outside.specs.Disk.{Disk}
@@ -10,10 +9,6 @@ use Rattle.vdr_config.specs.Configuration.{Selector}
 use Rattle.vdr_capture.specs.declared.sums.Outcome.{Outcome}
 use Rattle.vdr_capture.specs.declared.lane.Cause.{Cause}
 use Rattle.vdr_capture.specs.declared.lane.Cause.TheVariants.{Failed}
-use Rattle.vdr_control.specs.Orders.{PlainOrder}
-use Rattle.vdr_control.specs.Orders.PlainOrder.{Status, Save, Release, Incidents, Play, Evidence, Tell}
-use Rattle.vdr_control.specs.Orders.PlainOrder.{Health}
-use Rattle.vdr_control.specs.Orders.PlainOrder.{Export}
 use Rattle.vdr_recorder.specs.Recordings.{RecorderState}
 use Rattle.vdr_recorder.specs.Watched.{Watched}
 use Rattle.vdr_desk.specs.declared.desk.Desk.{Desk}
@@ -21,7 +16,6 @@ use Rattle.vdr_desk.specs.Answers.{Answer, seen_by}
 use Rattle.vdr_desk.specs.Exchanges.{AreServed, Exchange}
 use Rattle.vdr_desk.specs.Links.{Converses}
 use Rattle.vdr_desk.proofs.Exchanged.{Stands, served_so, served_until}
-use Rattle.vdr_reply.specs.Answers.{IsAnswer, Spells}
 use Rattle.vdr_session.specs.declared.mark.Mark.{Mark}
 use Rattle.vdr_session.specs.declared.records.Began.{Began}
 use Rattle.vdr_session.specs.declared.records.Began.TheVariants as starts
@@ -29,8 +23,7 @@ use Rattle.vdr_session.specs.Answering.{AnswersMark, BeginsMark, answer_over, la
 use Rattle.vdr_session.specs.Closed.{DesksRan}
 use Rattle.vdr_session.specs.Desks.{DeskReplied, DesksReplied, DesksTold, HasSpoken}
 use Rattle.vdr_session.specs.Ended.{EndsRun, IsToldAs, IsWithFailures}
-use Rattle.vdr_session.specs.Events.{event_of, events_along, events_of}
-use Rattle.vdr_session.specs.Marks.{taken_by, taken_in}
+use Rattle.vdr_session.specs.Events.{events_of}
 use Rattle.vdr_session.specs.Origins.{IsAnswerOf, IsBegunOf, Origin, RoseBy, failures_in, origin_at, origin_of, origins_of}
 use Rattle.vdr_session.specs.Sessions.{is_closed}
 use Rattle.vdr_session.specs.Standing.{Before}

@@ -1,5 +1,5 @@
 -- Desks that were served, in the whole history.
-use Rattle.std.proofs.Common.{◌≡◌, inl, inr, ◌∷◌, ℕ, Bool, List, [], Option, Some, None, IfSome, length, sym, ap, ◌∙◌, subst, arith}
+use Rattle.std.proofs.Common.{◌≡◌, ℕ, Bool, List, Option, Some, None, IfSome, length, sym, ap, ◌∙◌, subst, arith}
 use mathlib.Core.List.{IsPrefix}
 use Rattle.vdr_latch.specs.Passes.{Passing}
 use Rattle.vdr_outside.specs.declared.link.Link.{Ghosts as LinkTells}

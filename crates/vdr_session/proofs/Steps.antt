@@ -22,6 +22,7 @@ use Rattle.vdr_durability.proofs.Whole.{whole_has_not_failed}
 use Rattle.vdr_outside.specs.Causes.{NoneFalls, Rose}
 use Rattle.vdr_outside.specs.Disk.{Disk, Image, content}
 use Rattle.vdr_outside.proofs.Counts.{none_fell, none_falls_join, rose_after, sum_not_less}
+use Rattle.vdr_opening.specs.Media.{members_with}
 use Rattle.vdr_vault.specs.Calls.{SameElsewhere}
 use Rattle.vdr_vault.specs.Vaults.{AreRings, ShowsHistory}
 use Rattle.vdr_run.specs.Making.{counted_of}
@@ -190,7 +191,7 @@ LooksTold hears r disk was now = (opening : Opening) (events : List Event) (t0 :
 -- One behind a fault is not told.
 pub untold_look : {tells tells_images hears : Type 0} (r : RecorderState) (disk : Disk tells tells_images) (was now : Watched) → r.vault.failed ≡ true → (hears → now ≡ was) → LooksTold hears r disk was now
 untold_look r disk was now fails untold opening events t0 h =
-    done_told opening events t0 ALook r disk disk (look_done opening events t0 r disk disk h r.vault (same_disk disk) refl refl refl refl refl (λ placed stands. stands)) turns.Look was now false (ap not fails) (λ works. refl) untold
+    done_told opening events t0 ALook r disk disk (look_done opening events t0 r disk disk h r.vault (same_disk disk) refl refl refl refl refl refl (λ placed stands. stands)) turns.Look was now false (ap not fails) (λ works. refl) untold
 
 -- What a call leaves at home.
 pub record StaysHome {tells tells_images : Type 0} (r : RecorderState) (old : Disk tells tells_images) (was : List ℕ) (after : RecorderState) (new : Disk tells tells_images) (now : List ℕ) : Type 0 where
@@ -199,7 +200,7 @@ pub record StaysHome {tells tells_images : Type 0} (r : RecorderState) (old : Di
   pub sizes : new.sizes ≡ old.sizes
   pub later : NoneFalls was now
   pub rose : after.vault.failed ≡ true → (r.vault.failed ≡ true) ⊎ Rose (sum was) (sum now)
-  pub elsewhere : tells → SameElsewhere old.reads new.reads
+  pub elsewhere : tells → SameElsewhere (members_with 0) old.reads new.reads
 
 module _ {tells tells_images : Type 0} (before : Before) (began : Opening → ℕ → Type 0) (rates : List (Option Rate)) (room : ℕ) (sizes faults : List ℕ) (marks : List Mark) (w : Watched) (r : RecorderState)
     (old : Disk tells tells_images) (was : List ℕ) (k : IsKept before began rates room sizes faults marks w r old was) where
@@ -212,7 +213,7 @@ module _ {tells tells_images : Type 0} (before : Before) (began : Opening → �
     room_is = ap (λ (c : Configuration). c.batch) home.config ∙ k.room_is;
     rings = home.rings;
     sizes_are = home.sizes ∙ k.sizes_are;
-    elsewhere = λ told n ne ne1. home.elsewhere told n ne ne1 ∙ k.elsewhere told n ne ne1;
+    elsewhere = λ told n apart. home.elsewhere told n apart ∙ k.elsewhere told n apart;
     later = none_falls_join faults was now k.later home.later;
     rose = λ fails. ⊎_elim
         (λ (had : r.vault.failed ≡ true). let more = sum_not_less was now home.later.same_media home.later.none_falls in let rose = k.rose had in omega (arith, more, rose))
@@ -234,7 +235,7 @@ module _ {tells tells_images : Type 0} (before : Before) (began : Opening → �
           omega (arith, same, more, had)
 
   home_same : StaysHome r old was r old was
-  home_same = record { config = refl; rings = k.rings; sizes = refl; later = none_fell was; rose = λ fails. inl fails; elsewhere = λ told n ne ne1. refl }
+  home_same = record { config = refl; rings = k.rings; sizes = refl; later = none_fell was; rose = λ fails. inl fails; elsewhere = λ told n apart. refl }
 
   abbrev look_mark : Mark
   look_mark = record { did = Look; moment = moment_of r.vault.failed old.clock; desk = None }
@@ -425,7 +426,7 @@ module _ {tells tells_images : Type 0} (before : Before) (began : Opening → �
     room_is = config.1;
     rings = rings;
     sizes_are = sizes_are;
-    elsewhere = λ told n ne ne1. ap (λ (image : Image). content image n) was.3;
+    elsewhere = λ told n apart. ap (λ (image : Image). content image n) was.3;
     later = subst (λ (fs : List ℕ). NoneFalls fs now) faults_are (none_fell now);
     rose = λ fails. absurd (true≢false (sym fails ∙ new.1));
     channels_are = channels;

@@ -1,6 +1,7 @@
 -- What a session asks of its recorder and of its lanes, and what it tells and keeps whatever it records.
 use Rattle.std.specs.Prelude.{◌≡◌, ◌<◌, ℕ, false, List, length, slice_index_or}
 use Rattle.vdr_outside.specs.declared.media.Media.{Ghosts as MediaTells}
+use Rattle.vdr_opening.specs.Media.{members_with}
 use Rattle.vdr_vault.specs.Calls.{SameElsewhere}
 use Rattle.vdr_vault.specs.Vaults.{AreRings, VaultState}
 use Rattle.vdr_capture.specs.declared.lane.Lane.{Lane}
@@ -34,7 +35,7 @@ pub record EndsSession {M P : Type 0} (media : MediaTells M) (vault : VaultState
   -- where there was no memory, or the run was refused, nothing was called
   pub unbegun : IsUnbegun end.outcome → (new ≡ old) × ((g : ℕ) (d : Lane P) → g < 16 → (slice_index_or after g d).port ≡ (slice_index_or before g d).port)
   -- media but the capsule and the long-term one read as before
-  pub others : media.tells → SameElsewhere (media.disk old).reads (media.disk new).reads
+  pub others : media.tells → SameElsewhere (members_with 0) (media.disk old).reads (media.disk new).reads
   -- no medium changes its size
   pub sizes : (media.disk new).sizes ≡ (media.disk old).sizes
   -- no count of faults falls, and a fault of the media has its cause

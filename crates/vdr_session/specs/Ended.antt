@@ -9,6 +9,7 @@ use Rattle.vdr_intake.specs.Ends.{QueueId, Taking}
 use Rattle.vdr_outside.specs.Causes.{NoneFalls, Rose}
 use Rattle.vdr_outside.specs.Disk.{Disk}
 use Rattle.vdr_outside.specs.declared.port.Port.{Ghosts as PortTells}
+use Rattle.vdr_opening.specs.Media.{members_with}
 use Rattle.vdr_vault.specs.Calls.{SameElsewhere}
 use Rattle.vdr_capture.specs.declared.lane.Lane.{Lane}
 use Rattle.vdr_capture.specs.declared.sums.Outcome.{Outcome}
@@ -67,5 +68,5 @@ module _ {tells tells_images : Type 0} where
     pub later : NoneFalls faults now
     pub rose : outcome ≡ outcomes.MediaFault → Rose (sum faults) (sum now)
     pub sizes_are : disk.sizes ≡ sizes
-    pub elsewhere : tells → SameElsewhere before.reads disk.reads
+    pub elsewhere : tells → SameElsewhere (members_with 0) before.reads disk.reads
     pub told : tells → (opening : Opening) (t0 : ℕ) → opened opening t0 → EndsRun before opening marks t0 rest outcome r disk w × StartMeans opening began

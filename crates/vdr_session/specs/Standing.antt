@@ -10,6 +10,7 @@ use Rattle.vdr_durability.specs.Keeping.{ShowsPrefix, moment_of}
 use Rattle.vdr_core.specs.Taken.{Captured}
 use Rattle.vdr_outside.specs.Causes.{NoneFalls, Rose}
 use Rattle.vdr_outside.specs.Disk.{Disk, Image}
+use Rattle.vdr_opening.specs.Media.{members_with}
 use Rattle.vdr_vault.specs.Calls.{SameElsewhere}
 use Rattle.vdr_vault.specs.Vaults.{AreRings, ShowsHistory, VaultState}
 use Rattle.vdr_run.specs.Making.{counted_of}
@@ -92,7 +93,7 @@ module _ {tells tells_images : Type 0} where
     pub room_is : r.vault.config.batch ≡ room
     pub rings : AreRings r.vault disk.sizes
     pub sizes_are : disk.sizes ≡ sizes
-    pub elsewhere : tells → SameElsewhere before.reads disk.reads
+    pub elsewhere : tells → SameElsewhere (members_with 0) before.reads disk.reads
     pub later : NoneFalls faults now
     pub rose : r.vault.failed ≡ true → Rose (sum faults) (sum now)
     pub stage : IsAt marks r

@@ -1,6 +1,7 @@
 // A recording session over ports, with desks.
 ghost use Rattle.std.specs.Prelude.{◌≡◌, ◌≤◌, ◌<◌, ◌^◌, ℕ, [], None, false, length, replicate, slice_index_or, sum};
 ghost use Rattle.vdr_intake.specs.Items.{most_items};
+ghost use Rattle.vdr_opening.specs.Media.{members_with};
 ghost use Rattle.vdr_vault.specs.Calls.{SameElsewhere};
 ghost use Rattle.vdr_vault.specs.Vaults.{AreRings};
 ghost use Rattle.vdr_capture.specs.declared.sums.Outcome.TheVariants.{NoMemory};
@@ -103,7 +104,7 @@ fn record_and_reply<
     ensures groups { HasGroups recorder.vault.config.groups result }
     ensures decides { DecidesSession recorder.vault result.outcome }
     ensures unbegun { IsUnbegun result.outcome → (media.new ≡ media.old) × ((g : ℕ) (d : _) → g < 16 → (slice_index_or lanes.new g d).port ≡ (slice_index_or lanes.old g d).port) }
-    ensures others { M.tells → SameElsewhere (M.disk media.old).reads (M.disk media.new).reads }
+    ensures others { M.tells → SameElsewhere (members_with 0) (M.disk media.old).reads (M.disk media.new).reads }
     ensures sizes { (M.disk media.new).sizes ≡ (M.disk media.old).sizes }
     ensures cause { HasSessionCause (M.faults media.old) (M.faults media.new) result.outcome }
 {

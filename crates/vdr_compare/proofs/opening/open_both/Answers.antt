@@ -1,4 +1,4 @@
-use Rattle.std.proofs.Common.{◌≡◌, ℕ, rules, bytes_eq, sym, subst}
+use Rattle.std.proofs.Common.{◌≡◌, ℕ, rules, bytes_eq, sym, subst, arith}
 use Rattle.std.proofs.lemmas.Result.{err_from_is_err_and}
 use Rattle.vdr_terms.proofs.Results.{same_err}
 use Rattle.vdr_outside.specs.Disk.{Image, content}
@@ -14,7 +14,8 @@ returns-in_err-capsule-clause-damaged g c =
     let p = err_from_is_err_and c.from_residual.result c.from_residual.ensures.1 in
     rw (p.1, p.2) (λ k offset e t.
     let h = c.in_err-capsule.ensures.damaged k offset (same_err _ _ e) in
-    subst (λ (n : ℕ). RefusesAlone n (content (g.M.Media.disk c.args.media.now).reads n) offset) (sym h.0) (h.1 t))
+    let first = h.0 in
+    (omega (arith, first), subst (λ (n : ℕ). RefusesAlone n (content (g.M.Media.disk c.args.media.now).reads n) offset) (sym h.0) (h.1 t)))
 
 pub returns-in_err-capsule-clause-cause : goal.returns-in_err-capsule-clause-cause
 returns-in_err-capsule-clause-cause g c =
@@ -26,8 +27,11 @@ returns-in_err-longterm-clause-damaged g c =
     let p = err_from_is_err_and c.from_residual-in_err-longterm.result c.from_residual-in_err-longterm.ensures.1 in
     rw (p.1, p.2) (λ k offset e t.
     let h = c.in_err-longterm.ensures.damaged k offset (same_err _ _ e) in
-    subst (λ (i : Image). RefusesAlone k (content i k) offset) (c.open_with_text.ensures.unchanged.reads t)
-    (subst (λ (n : ℕ). RefusesAlone n (content (g.M.Media.disk c.open_with_text.new.media).reads n) offset) (sym h.0) (h.1 t)))
+    let second = h.0 in (
+      omega (arith, second),
+      subst (λ (i : Image). RefusesAlone k (content i k) offset) (c.open_with_text.ensures.unchanged.reads t)
+          (subst (λ (n : ℕ). RefusesAlone n (content (g.M.Media.disk c.open_with_text.new.media).reads n) offset) (sym h.0) (h.1 t)),
+    ))
 
 pub returns-in_err-longterm-clause-cause : goal.returns-in_err-longterm-clause-cause
 returns-in_err-longterm-clause-cause g c =

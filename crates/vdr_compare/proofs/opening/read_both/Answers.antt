@@ -9,6 +9,11 @@ use Rattle.vdr_compare.specs.Surveys.{IsSurveyOf}
 use Rattle.vdr_compare.proofs.Opened.{part_failed}
 use Rattle.vdr_compare.proofs.opening.read_both.Goals as goal
 
+pub returns-in_err-capsule-clause-damaged : goal.returns-in_err-capsule-clause-damaged
+returns-in_err-capsule-clause-damaged g c =
+    let p = err_from_is_err_and c.from_residual.result c.from_residual.ensures.1 in
+    rw (p.1, p.2) (λ k offset e. c.in_err-capsule.ensures.damaged k offset (same_err _ _ e))
+
 pub returns-in_err-first-clause-damaged : goal.returns-in_err-first-clause-damaged
 returns-in_err-first-clause-damaged g c =
     let p = err_from_is_err_and c.from_residual-in_err-first.result c.from_residual-in_err-first.ensures.1 in

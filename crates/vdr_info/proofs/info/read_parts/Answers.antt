@@ -1,7 +1,8 @@
-use Rattle.std.proofs.Common.{◌∙◌, get_or, arith}
+use Rattle.std.proofs.Common.{◌∙◌, ℕ, get_or, arith, subst, sym}
 use Rattle.std.proofs.lemmas.Result.{err_from_is_err_and}
 use Rattle.vdr_terms.proofs.Results.{same_err}
 use Rattle.vdr_outside.proofs.Moments.{unchanged_join}
+use Rattle.vdr_opening.specs.Costs.{ReadsParts}
 use Rattle.vdr_info.proofs.InfoLemmas.{bytes_here, held_here, known_here, order_here, parts_read, text_here, text_there, unchanged_still}
 use Rattle.vdr_info.proofs.info.read_parts.Goals as goal
 
@@ -57,9 +58,10 @@ returns-clause-counts g c told x holds is =
     let same = c.survey.ensures.unchanged in
     let still = unchanged_still (g.M.Media.disk c.args.media.now) in
     let size = c.size-2.ensures ∙ (λ i. get_or (same.sizes i) 1 0) in
-    parts_read x.config.segment x.placed (g.M.Media.disk c.args.media.now).sizes _ _ _ _
+    subst (λ (n : ℕ). ReadsParts n 16385 x.config.segment x.placed (g.M.Media.disk c.args.media.now).sizes (g.M.Media.bytes_read c.args.media.now) (g.M.Media.bytes_read c.read_text.new.media)) (sym holds.further)
+    (parts_read x.config.segment x.placed (g.M.Media.disk c.args.media.now).sizes _ _ _ _
     (bytes_here _ _ still told x holds c.args.config.now is 0 (omega arith) c.area_of.result first.medium first.segment _ first.slots c.size.ensures _ _ (c.in_ok-capsule.ensures.counts told (x.placed 0)
     (known_here _ _ still told x holds c.args.config.now is 0 (omega arith) c.area_of.result first.medium first.segment _ first.slots c.size.ensures)))
     (bytes_here _ _ same told x holds c.args.config.now is 1 (omega arith) c.area_of-2.result second.medium second.segment _ second.slots size _ _ (c.in_ok-long_term.ensures.counts told (x.placed 1)
     (known_here _ _ same told x holds c.args.config.now is 1 (omega arith) c.area_of-2.result second.medium second.segment _ second.slots size)))
-    c.read_text.ensures.counts
+    c.read_text.ensures.counts)

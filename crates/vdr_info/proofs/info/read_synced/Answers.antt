@@ -48,5 +48,5 @@ returns-clause-info g c told =
         table = ap (λ (o : OpenedState). o.table) c.opened.view_is ∙ found.1.table;
       };
       reads = reads_twice found.0 (g.M.Media.disk c.args.media.now).sizes _ _ _ found.2
-          (subst (λ (sizes : List ℕ). ReadsParts 16385 found.0.config.segment found.0.placed sizes (g.M.Media.bytes_read c.read_media.new.media) (g.M.Media.bytes_read c.read_parts.new.media)) same.sizes (c.in_ok-parts.ensures.counts told found.0 found.1.holds (ap (λ (o : OpenedState). o.config) c.opened.view_is ∙ found.1.config)));
+          (subst (λ (sizes : List ℕ). ReadsParts found.0.further 16385 found.0.config.segment found.0.placed sizes (g.M.Media.bytes_read c.read_media.new.media) (g.M.Media.bytes_read c.read_parts.new.media)) same.sizes (c.in_ok-parts.ensures.counts told found.0 found.1.holds (ap (λ (o : OpenedState). o.config) c.opened.view_is ∙ found.1.config)));
     }

@@ -2,6 +2,7 @@ use Rattle.std.proofs.Common.{◌≡◌, ◌≤◌, ◌+◌, ◌-◌, ℕ, List,
 use Rattle.vdr_terms.specs.Records.{FeedItem}
 use Rattle.vdr_core.specs.Histories.{Event, Opening}
 use Rattle.vdr_outside.specs.Causes.{NoneFalls}
+use Rattle.vdr_media.specs.Formatted.{members_with}
 use Rattle.vdr_vault.specs.Calls.{SameElsewhere}
 use Rattle.vdr_vault.specs.Vaults.{AreRings}
 use Rattle.vdr_feed.specs.Feed.{longest_feed}
@@ -23,7 +24,7 @@ invariant-loop-end g l = record {
   opened : l.recorder.is_open ≡ true;
   config : l.recorder.vault.config ≡ l.fn.recorder.vault.config;
   rings : AreRings l.recorder.vault (g.M.Media.disk l.media).sizes;
-  others : g.M.Media.tells → SameElsewhere (g.M.Media.disk l.fn.media).reads (g.M.Media.disk l.media).reads;
+  others : g.M.Media.tells → SameElsewhere (members_with 0) (g.M.Media.disk l.fn.media).reads (g.M.Media.disk l.media).reads;
   sizes : (g.M.Media.disk l.media).sizes ≡ (g.M.Media.disk l.fn.media).sizes;
   falls : NoneFalls (g.M.Media.faults l.fn.media) (g.M.Media.faults l.media);
   later : g.I.Source.faults l.fn.input ≤ g.I.Source.faults l.input;

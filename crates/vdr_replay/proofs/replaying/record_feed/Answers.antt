@@ -219,10 +219,10 @@ returns-clause-beside g c = λ refuses told. beside_still (λ m. g.M.Media.disk 
     (c.record_run.ensures.unbegun refuses) (c.open_watched.ensures.writes.others told)
 
 pub returns-in_err-recorder-clause-others : goal.returns-in_err-recorder-clause-others
-returns-in_err-recorder-clause-others g c = λ told k first second. c.open_watched.ensures.writes.others told k second
+returns-in_err-recorder-clause-others g c = λ told k apart. c.open_watched.ensures.writes.others told k (apart 1 0 (omega arith))
 
 pub returns-in_err-lanes-clause-others : goal.returns-in_err-lanes-clause-others
-returns-in_err-lanes-clause-others g c = λ told k first second. c.open_watched.ensures.writes.others told k second
+returns-in_err-lanes-clause-others g c = λ told k apart. c.open_watched.ensures.writes.others told k (apart 1 0 (omega arith))
 
 pub returns-clause-others : goal.returns-clause-others
-returns-clause-others g c = λ told k first second. c.record_run.ensures.others told k first second ∙ c.open_watched.ensures.writes.others told k second
+returns-clause-others g c = λ told k apart. c.record_run.ensures.others told k apart ∙ c.open_watched.ensures.writes.others told k (apart 1 0 (omega arith))

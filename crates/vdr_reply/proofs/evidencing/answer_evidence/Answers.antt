@@ -83,7 +83,7 @@ pub returns-in-Err-clause-rings : goal.returns-in-Err-clause-rings
 returns-in-Err-clause-rings g c = rings_still _ _ c.printer_of.ensures.unchanged c.args.recorder.now.vault c.requires.rings
 
 pub returns-in-Err-clause-others : goal.returns-in-Err-clause-others
-returns-in-Err-clause-others g c = elsewhere_before _ _ c.printer_of.ensures.unchanged _ (λ told k first second. refl)
+returns-in-Err-clause-others g c = elsewhere_before _ _ c.printer_of.ensures.unchanged _ (λ told k apart. refl)
 
 pub returns-in-Err-clause-cause : goal.returns-in-Err-clause-cause
 returns-in-Err-clause-cause g c = read_cause _ _ _ c.printer_of.ensures.cause.later

@@ -57,7 +57,7 @@ returns-clause-rest g c =
     rest_read (asked c.args.query.now) c.args.recorder.now c.export_file-written.new.reader (g.M.Media.disk c.args.media.now) (g.M.Media.disk c.export_file-written.new.media) _ _ _ _ _ c.export_file-written.ensures.leaves.looked
 
 pub returns-clause-others : goal.returns-clause-others
-returns-clause-others g c = elsewhere_before _ _ c.export_file-written.ensures.leaves.looked.read.unchanged _ (λ told k first second. refl)
+returns-clause-others g c = elsewhere_before _ _ c.export_file-written.ensures.leaves.looked.read.unchanged _ (λ told k apart. refl)
 
 pub returns-clause-cause : goal.returns-clause-cause
 returns-clause-cause g c =

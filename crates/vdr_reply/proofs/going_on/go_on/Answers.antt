@@ -1,8 +1,7 @@
-use Rattle.std.proofs.Common.{◌≡◌, ◌⊎◌, inl, inr, ◌++◌, ◌∷◌, ℕ, List, [], Bool, true, false, Result, Ok, Err, ⊎_elim, refl, sym, ap, ◌∙◌, subst, append_assoc}
+use Rattle.std.proofs.Common.{◌≡◌, inl, inr, ◌++◌, ◌∷◌, ℕ, List, [], Bool, true, false, Result, Ok, Err, ⊎_elim, ap, ◌∙◌, subst, append_assoc}
 use Rattle.std.proofs.lemmas.Bool.{cases_Bool}
 use Rattle.vdr_core.specs.Histories.{Event}
 use Rattle.vdr_durability.specs.Keeping.{moment_of}
-use Rattle.vdr_entry.specs.Queries.{asked}
 use Rattle.vdr_ring.specs.declared.refused.ReadRefused.{ReadRefused}
 use Rattle.vdr_ring.specs.declared.refused.ReadRefused.TheVariants.{Fault}
 use Rattle.vdr_vault.specs.Vaults.{IsReadable}
@@ -11,7 +10,6 @@ use Rattle.vdr_recorder.specs.Recordings.{RecorderState}
 use Rattle.vdr_recorder.specs.declared.resume.Going.{Going}
 use Rattle.vdr_recorder.specs.declared.resume.Going.TheVariants.{Gone}
 use Rattle.vdr_recorder.proofs.Answering.{in_this_call}
-use Rattle.vdr_reply.specs.Answers.{HasGoneOn}
 use Rattle.vdr_reply.specs.Plays.{EndsTurn}
 use Rattle.vdr_reply.proofs.Plays.{failed_played, goes_so}
 use Rattle.vdr_reply.proofs.going_on.go_on.Goals as goal

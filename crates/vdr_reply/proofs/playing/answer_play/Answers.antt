@@ -1,13 +1,10 @@
-use Rattle.std.proofs.Common.{◌≡◌, ap, sym, ◌∙◌, subst, length}
-use Rattle.std.specs.Prelude.{IfOk}
+use Rattle.std.proofs.Common.{ap, sym, ◌∙◌, length}
 use Rattle.vdr_terms.specs.Queries.{Query}
 use Rattle.vdr_entry.specs.Queries.{asked}
 use Rattle.vdr_visit.specs.Refusals.{lacks_channel, lacks_incident}
 use Rattle.vdr_vault.proofs.Playing.{stands_to_read}
 use Rattle.vdr_vault.proofs.Reading.{reads_keep_failed}
 use Rattle.vdr_recorder.proofs.Answering.{in_this_call}
-use Rattle.vdr_recorder.specs.declared.resume.OpenPlay.{OpenPlay}
-use Rattle.vdr_reply.specs.Orders.{query_of}
 use Rattle.vdr_reply.proofs.Told.{has_so, lacks_so, unnamed_answer}
 use Rattle.vdr_reply.proofs.Plays.{absent_answer, asked_channel, asks_ok, begun_answer, whole_answer}
 use Rattle.vdr_reply.proofs.playing.answer_play.Goals as goal

@@ -7,7 +7,6 @@ use Rattle.vdr_capture.specs.declared.sums.Outcome.TheVariants.{MediaFault}
 use Rattle.vdr_run.specs.Making.{rest_of}
 use Rattle.vdr_session.specs.declared.records.Began.TheVariants as starts
 use Rattle.vdr_outside.specs.declared.link.Link.{Ghosts as LinkTells}
-use Rattle.vdr_control.specs.Orders.{PlainOrder}
 use Rattle.vdr_desk.specs.Answers.{Answer}
 use Rattle.vdr_desk.specs.declared.desk.Desk.{Desk}
 use Rattle.vdr_session.specs.declared.mark.Mark.{Mark}

@@ -147,9 +147,9 @@ returns-clause-groups g c =
     (λ k small. c.new-plan.ensures.configured k small ∙ ap (λ (x : Configuration). is_configured (limits_in x.groups k)) config) (λ k d small. c.in-Ok.ensures.set_up k d small) k small)
 
 pub returns-clause-others : goal.returns-clause-others
-returns-clause-others g c = λ told k ne ne1.
+returns-clause-others g c = λ told k apart.
     let e = if_some _ c.run_lent-media.result.2 c.in-Some.field-0 c.in-Some.is c.run_lent-media.ensures.ended in
-    (λ i. content (g.M.Media.disk (c.media-1.given.1 (sym c.run_lent-media.ensures.same) i)).reads k) ∙ e.elsewhere told k ne ne1
+    (λ i. content (g.M.Media.disk (c.media-1.given.1 (sym c.run_lent-media.ensures.same) i)).reads k) ∙ e.elsewhere told k apart
 
 pub returns-in_default-clause-groups : goal.returns-in_default-clause-groups
 returns-in_default-clause-groups g c = no_groups c.args.recorder.vault.config.groups c.without_memory.result c.without_memory.ensures.outcome c.without_memory.ensures.none

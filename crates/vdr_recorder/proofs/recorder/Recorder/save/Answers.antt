@@ -12,7 +12,7 @@ returns-clause-event g c = record {
         s.a,
         s.b,
         s.told,
-        save_done opening events t0 _ _ h works _ _ c.save.ensures.keeps.config c.save.ensures.keeps.next_place c.save.ensures.keeps.last _ _ s free c.save.ensures.refuses.reason
+        save_done opening events t0 _ _ h works _ _ c.save.ensures.keeps.config c.save.ensures.keeps.next_place c.save.ensures.keeps.last c.save.ensures.keeps.count _ _ s free c.save.ensures.refuses.reason
             sound c.save.ensures.failing.fails c.save.ensures.failing.works c.save.ensures.saved.kept,
       ));
   looked = rw (sym c.self.view_is) (λ opening events t0 refused why h.
@@ -24,7 +24,7 @@ returns-clause-event g c = record {
       let d = c.save.ensures.damage.damaged m offset damage in
       look_done opening events t0 _ (g.M.Media.disk c.args.media.now) (g.M.Media.disk c.save.new.media) h c.save.new.self d.0
       (d.1 ∙ sym (not_failed c.save.result _ m offset damage (λ fails. (c.save.ensures.refuses.failed fails).0))) c.save.ensures.keeps.config c.save.ensures.keeps.next_place c.save.ensures.keeps.last
-      (on_err c.save.result _ _ damage c.save.ensures.saved.kept)
+      (on_err c.save.result _ _ damage c.save.ensures.saved.kept) c.save.ensures.keeps.count
       (λ placed stands. c.save.ensures.damage.stands opening events placed m offset told damage stands));
 }
 
