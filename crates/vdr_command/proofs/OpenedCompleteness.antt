@@ -4,9 +4,9 @@ use Rattle.vdr_terms.specs.Records.{last}
 use Rattle.vdr_core.specs.Histories.{stamp_of}
 use Rattle.vdr_durability.specs.Readings.{EndsMeet, Reading, next_after, records_on, restored}
 use Rattle.vdr_outside.specs.Disk.{Image}
-use Rattle.vdr_media.specs.Formatted.{IsFormatted, IsUnformatted}
+use Rattle.vdr_media.specs.Formatted.{IsFormatted, IsUnformatted, members}
 use Rattle.vdr_directory.specs.Sequence.{Placed, batches_in}
-use Rattle.vdr_opening.specs.Media.{members, Contents, HoldsContents, HoldsParts, opening_of, parts_of, reading_of}
+use Rattle.vdr_opening.specs.Media.{members_with, Contents, HoldsContents, HoldsParts, opening_of, parts_of, reading_of}
 use Rattle.vdr_opening.specs.Refusals.{IsRefused}
 use Rattle.vdr_command.specs.Opened.{OneAnswer, RefusesAll}
 use Rattle.vdr_command.specs.declared.status.Status.{Status}
@@ -17,7 +17,7 @@ pub damaged_alike : (m offset k other : ℕ) → (m ≡ k) × (offset ≡ other)
 damaged_alike m offset k other same = λ i. Damaged (same.0 i) (same.1 i)
 
 -- What can be opened is not refused.
-pub opened_refused : (image : Image) (law : OneAnswer image) (status : Status) → IsFormatted image → (x : Contents) → HoldsParts image x → EndsMeet members (reading_of x) → RefusesAll image status
+pub opened_refused : (image : Image) (law : OneAnswer image) (status : Status) → IsFormatted image → (x : Contents) → HoldsParts image x → EndsMeet (members_with x.further) (reading_of x) → RefusesAll image status
 opened_refused image law status formatted x holds meet = record {
   unformatted = λ un. absurd (never_both image formatted un);
   damaged = λ f m offset r. absurd (law.opens x m offset holds meet r);

@@ -11,7 +11,7 @@ use Rattle.vdr_outside.proofs.Moments.{moments_and_reads}
 use Rattle.vdr_config.specs.Grammar.{configuration}
 use Rattle.vdr_media.specs.Formatted.{IsFormatted, IsUnformatted}
 use Rattle.vdr_opening.specs.Answers.{HasOpenCause}
-use Rattle.vdr_opening.specs.Media.{members, Contents, HoldsContents, HoldsParts, opening_of, reading_of}
+use Rattle.vdr_opening.specs.Media.{members_with, Contents, HoldsContents, HoldsParts, opening_of, reading_of}
 use Rattle.vdr_opening.specs.Refusals.{IsRefused}
 use Rattle.vdr_opening.specs.declared.refused.OpenRefused.{OpenRefused}
 use Rattle.vdr_opening.specs.declared.refused.OpenRefused.TheVariants as openings
@@ -117,8 +117,8 @@ module _ {tells tells_images : Type 0} where
       → ((result ≡ Err openings.NotFormatted) ⊎ ((m : ℕ) × (offset : ℕ) × (result ≡ Err (openings.Damaged m offset))) → LeavesAll old.disk new.disk × (tells → new.disk.reads ≡ old.disk.reads))
       → (tells → IsUnformatted old.disk.reads → LeavesAll old.disk new.disk)
       → (tells → SameBut 1 old.disk.reads new.disk.reads)
-      → HasOpenCause old.faults new.faults result
-      → ((x : Contents) → tells → HoldsContents old.disk.reads x → EndsMeet members (reading_of x) → WasRecorded x → OpensAtEachMoment old.disk new.disk result (ShowsHistory (opening_of x) []))
+      → HasOpenCause (members_with 0) old.faults new.faults result
+      → ((x : Contents) → tells → HoldsContents old.disk.reads x → EndsMeet (members_with x.further) (reading_of x) → WasRecorded x → OpensAtEachMoment old.disk new.disk result (ShowsHistory (opening_of x) []))
       → MediaEnds Can Met MayBe old new (status_of_opening refused)
   refused_ends Can Met MayBe old new result openings.NoMemory may is unformatted damaged untouched blank others cause moments = record {
     unformatted = λ e. let none : ⊥ = cc in absurd none;
@@ -166,7 +166,7 @@ module _ {tells tells_images : Type 0} where
   -- The work was done.
   pub worked_ends : (Can : Contents → Type 0) (Met : (m offset : ℕ) → Type 0) (MayBe : List Event → Type 0) (old new : MediaSeen tells tells_images) (status : Status) → IsWorkDone status
       → (tells → IsOpenableWith old.disk.reads Can) → (tells → SameBut 1 old.disk.reads new.disk.reads)
-      → ((x : Contents) → tells → HoldsContents old.disk.reads x → EndsMeet members (reading_of x) → WasRecorded x → KeepsContents x MayBe status old.disk new.disk)
+      → ((x : Contents) → tells → HoldsContents old.disk.reads x → EndsMeet (members_with x.further) (reading_of x) → WasRecorded x → KeepsContents x MayBe status old.disk new.disk)
       → MediaEnds Can Met MayBe old new status
   worked_ends Can Met MayBe old new status done opens others kept = ⊎_elim
       (λ (is : status ≡ Done). subst (λ (s : Status). MediaEnds Can Met MayBe old new s) (sym is) (record {
@@ -191,11 +191,11 @@ module _ {tells tells_images : Type 0} where
 
   -- The vault was opened on these media, and tells what was read of them.
   abbrev pub OpenedOn : Disk tells tells_images → VaultState → Type 0
-  OpenedOn old vault = tells → IsFormatted old.reads × (x : Contents) × HoldsParts old.reads x × EndsMeet members (reading_of x) × IsToldBy x vault
+  OpenedOn old vault = tells → IsFormatted old.reads × (x : Contents) × HoldsParts old.reads x × EndsMeet (members_with x.further) (reading_of x) × IsToldBy x vault
 
   -- Where they are legible it tells what they hold.
   abbrev pub TellsOn : Disk tells tells_images → VaultState → Type 0
-  TellsOn old vault = (x : Contents) → tells → HoldsContents old.reads x → EndsMeet members (reading_of x) × IsToldBy x vault
+  TellsOn old vault = (x : Contents) → tells → HoldsContents old.reads x → EndsMeet (members_with x.further) (reading_of x) × IsToldBy x vault
 
   -- What was opened can be, and what the vault tells holds of what was read.
   pub opened_so : (Can : Contents → Type 0) (old : Disk tells tells_images) (vault : VaultState) → OpenedOn old vault

@@ -5,7 +5,7 @@ use Rattle.vdr_core.specs.Histories.Act.{Look}
 use Rattle.vdr_durability.specs.Readings.{EndsMeet}
 use Rattle.vdr_outside.specs.Disk.{Disk, Image, SameBut}
 use Rattle.vdr_media.specs.Formatted.{IsFormatted, IsUnformatted}
-use Rattle.vdr_opening.specs.Media.{members, Contents, HoldsContents, HoldsParts, opening_of, parts_of, reading_of}
+use Rattle.vdr_opening.specs.Media.{members_with, Contents, HoldsContents, HoldsParts, opening_of, parts_of, reading_of}
 use Rattle.vdr_opening.specs.Refusals.{IsRefused}
 use Rattle.vdr_vault.specs.Openings.{LeavesAll, WritesMissing}
 use Rattle.vdr_vault.specs.Regularity.{AreSound}
@@ -51,7 +51,7 @@ WasRecorded x = AreSound x
 
 -- What opening reads of the image is legal, the ends of its media meet, and P holds of what was read.
 abbrev pub IsOpenableWith : Image → (Contents → Type 0) → Type 0
-IsOpenableWith image P = IsFormatted image × (x : Contents) × HoldsParts image x × EndsMeet members (reading_of x) × P x
+IsOpenableWith image P = IsFormatted image × (x : Contents) × HoldsParts image x × EndsMeet (members_with x.further) (reading_of x) × P x
 
 -- Tick and utc of the last record of these contents.
 abbrev pub newest_of : Contents → Option (ℕ × ℤ)
@@ -122,7 +122,7 @@ module _ {tells tells_images : Type 0} where
     pub others : tells → SameBut 1 old.disk.reads new.disk.reads
     -- what was recorded stays, on each medium and at every moment
     pub blank : tells → IsUnformatted old.disk.reads → LeavesAll old.disk new.disk
-    pub kept : (x : Contents) → tells → HoldsContents old.disk.reads x → EndsMeet members (reading_of x) → WasRecorded x
+    pub kept : (x : Contents) → tells → HoldsContents old.disk.reads x → EndsMeet (members_with x.further) (reading_of x) → WasRecorded x
         → (IsUnopened status × LeavesAll old.disk new.disk) ⊎ KeepsContents x MayBe status old.disk new.disk
 
 -- Media that can't be opened are refused by their own refusal, or there was no memory.
@@ -146,6 +146,6 @@ pub record OneAnswer (image : Image) : Type 0 where
   pub placed : (x y : Contents) → HoldsContents image x → HoldsContents image y → x.placed 0 ≡ y.placed 0
   pub formatted : (x : Contents) → HoldsContents image x → IsUnformatted image → ⊥
   -- what can be opened is not refused, and so what is legible is not
-  pub opens : (x : Contents) (m offset : ℕ) → HoldsParts image x → EndsMeet members (reading_of x) → IsRefused image m offset → ⊥
-  pub either : (x : Contents) (m offset : ℕ) → HoldsContents image x → EndsMeet members (reading_of x) → IsRefused image m offset → ⊥
+  pub opens : (x : Contents) (m offset : ℕ) → HoldsParts image x → EndsMeet (members_with x.further) (reading_of x) → IsRefused image m offset → ⊥
+  pub either : (x : Contents) (m offset : ℕ) → HoldsContents image x → EndsMeet (members_with x.further) (reading_of x) → IsRefused image m offset → ⊥
   pub one : (m offset k other : ℕ) → IsRefused image m offset → IsRefused image k other → (m ≡ k) × (offset ≡ other)

@@ -9,7 +9,7 @@ use Rattle.vdr_outside.specs.Disk.{Disk, Image, SameBut}
 use Rattle.vdr_outside.specs.declared.port.Port.{Ghosts as PortTells}
 use Rattle.vdr_outside.proofs.Counts.{rose_after, sum_not_less}
 use Rattle.vdr_config.specs.Configuration.{Configuration}
-use Rattle.vdr_opening.specs.Media.{members, Contents, HoldsContents, opening_of, reading_of}
+use Rattle.vdr_opening.specs.Media.{members_with, Contents, HoldsContents, opening_of, reading_of}
 use Rattle.vdr_vault.specs.Calls.{SameElsewhere}
 use Rattle.vdr_vault.specs.Openings.{IsToldBy, OpensAtEachMoment, WritesMissing}
 use Rattle.vdr_vault.specs.Vaults.{ShowsHistory, VaultState}
@@ -39,8 +39,8 @@ use Rattle.vdr_live.proofs.LinkLemmas.{are_replied, asks_links}
 use Rattle.vdr_live.proofs.PortLemmas.{asks_ports, unasked}
 
 -- What stays on the other media, over two calls.
-pub same_twice : (old mid new : Image) → SameElsewhere old mid → SameElsewhere mid new → SameElsewhere old new
-same_twice old mid new first then = λ k a b. then k a b ∙ first k a b
+pub same_twice : (old mid new : Image) → SameElsewhere (members_with 0) old mid → SameElsewhere (members_with 0) mid new → SameElsewhere (members_with 0) old new
+same_twice old mid new first then = λ k apart. then k apart ∙ first k apart
 
 -- What the vault decides is what opening read decides.
 begins_as : (x : Contents) (vault : VaultState) → IsToldBy x vault → (outcome : Outcome) → DecidesSession vault outcome → OutcomeMeans (opening_of x) outcome
@@ -64,15 +64,15 @@ module _ {P L tells tells_images : Type 0} (port_tells : PortTells P) (link_tell
     (opened : (x : Contents) → tells → HoldsContents old.disk.reads x → WasRecorded x → (t0 : ℕ) × (old.disk.clock ≤ t0) × (t0 ≤ mid.disk.clock) × HasRecorded (opening_of x) [] t0 r mid.disk)
     (since_now : (x : Contents) → tells → HoldsContents old.disk.reads x → WasRecorded x → HasRecorded (opening_of x) [] mid.disk.clock r mid.disk)
     (hears : Type 0) (was w : Watched) (heard : (opening : Opening) → hears → IsHeard opening [] mid.disk.clock old.disk was)
-    (moments : (x : Contents) → tells → HoldsContents old.disk.reads x → EndsMeet members (reading_of x) → WasRecorded x
+    (moments : (x : Contents) → tells → HoldsContents old.disk.reads x → EndsMeet (members_with x.further) (reading_of x) → WasRecorded x
     → OpensAtEachMoment {T = RecorderState} old.disk mid.disk (Ok r) (ShowsHistory (opening_of x) []))
-    (first_others : tells → SameElsewhere old.disk.reads mid.disk.reads) (first_later : NoneFalls old.faults mid.faults)
+    (first_others : tells → SameElsewhere (members_with 0) old.disk.reads mid.disk.reads) (first_later : NoneFalls old.faults mid.faults)
     (session : SessionWith port_tells turns r.vault.config.queue r.vault.config.groups lanes_old lanes_new r mid.disk new.disk end
     (λ opening events. DesksReplied link_tells turns r.vault.config.channels (sum mid.faults) (sum new.faults) end.outcome desks_old desks_new opening events × Tells hears opening [] events was w))
     (desks : DesksTold link_tells turns end.outcome desks_old desks_new) (told : FailureTold end.outcome lanes_new desks_new) (groups : HasGroups r.vault.config.groups end)
     (decides : DecidesSession r.vault end.outcome) (unbegun : IsUnbegun end.outcome → (new.disk ≡ mid.disk) × ((g : ℕ) (d : Lane P) → g < 16 → (get_or lanes_new g d).port ≡ (get_or lanes_old g d).port))
     (first_beside : tells → SameBut 1 old.disk.reads mid.disk.reads) (first_missing : AddsMissing old.disk mid.disk)
-    (others : tells → SameElsewhere mid.disk.reads new.disk.reads) (cause : HasSessionCause mid.faults new.faults end.outcome) where
+    (others : tells → SameElsewhere (members_with 0) mid.disk.reads new.disk.reads) (cause : HasSessionCause mid.faults new.faults end.outcome) where
   pub recorded_ends : IsRecorded turns (seen_ports port_tells lanes_old) (seen_ports port_tells lanes_new) (seen_links link_tells desks_old) (seen_links link_tells desks_new) old new hears w end
   recorded_ends = record {
     rates = r.vault.config.groups;

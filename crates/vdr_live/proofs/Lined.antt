@@ -1,5 +1,5 @@
 -- Words that are two, or two and others.
-use Rattle.std.proofs.Common.{◌≡◌, ◌∙◌, ◌≤◌, ◌<◌, ℕ, List, [], ◌∷◌, ◌-◌, length, take, drop, get_or, arith, ap, sym, refl}
+use Rattle.std.proofs.Common.{◌≡◌, ◌∙◌, ◌≤◌, ◌<◌, List, [], ◌∷◌, ◌-◌, length, take, drop, get_or, arith, ap, sym}
 use Rattle.std.proofs.Math.Seq.{take-length}
 
 pub two_of : {S : Type 0} (ws : List S) (a b : S) → 2 ≤ length ws → length ws < 3 → a ≡ get_or ws 0 a → b ≡ get_or ws 1 b → ws ≡ a ∷ b ∷ []

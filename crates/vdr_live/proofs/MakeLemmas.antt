@@ -1,12 +1,12 @@
 -- What `make` answers, from what its parts ensure.
-use Rattle.std.specs.Prelude.{Bool, false, nat_lt, IsErrOf, All, ⊤, if◌then◌else◌}
+use Rattle.std.specs.Prelude.{false, nat_lt, IsErrOf, All, ⊤, if◌then◌else◌}
 use Rattle.std.specs.Io.KnownBytes.{IsAtEnd}
-use Rattle.std.proofs.Common.{◌≡◌, ◌≤◌, ◌<◌, ◌⊎◌, inl, inr, ⊎_elim, ℕ, zero, suc, List, [], ◌∷◌, length, replicate, sum, Option, Some, None, Result, Ok, Err, refl, sym, ap, subst, ◌∙◌, arith}
+use Rattle.std.proofs.Common.{◌≡◌, ◌<◌, ◌⊎◌, inl, inr, ⊎_elim, ℕ, zero, suc, List, [], ◌∷◌, replicate, sum, Option, Some, None, Result, Ok, Err, refl, sym, ap, subst, ◌∙◌}
 use Rattle.std.proofs.lemmas.Bool.{cond-false, le-ltb}
 use Rattle.std.proofs.lemmas.List.Elements.{All-weaker}
 use Rattle.vdr_terms.specs.Needs.{Sizes, Fits, needed_slots, slots_in}
 use Rattle.vdr_outside.specs.Causes.{Rose}
-use Rattle.vdr_outside.specs.Disk.{Disk, Image, Unchanged, content}
+use Rattle.vdr_outside.specs.Disk.{Image, Unchanged, content}
 use Rattle.vdr_outside.specs.Moments.{Settled}
 use Rattle.vdr_outside.specs.declared.media.Media.{Ghosts as MediaTells}
 use Rattle.vdr_feed.specs.Reader.{IfKnown}
@@ -35,7 +35,7 @@ use Rattle.vdr_tool.proofs.Texts.{told_text}
 use Rattle.vdr_live.specs.declared.asking.Unasked.{Unasked}
 use Rattle.vdr_live.specs.declared.asking.Unasked.TheVariants as unasked
 use Rattle.vdr_live.specs.Making.{IsFirstLacking, NoneFits}
-use Rattle.vdr_live.specs.Makes.{AreFormatted, AsksSizes, IsFormattedSince, MadeFailed, MakeDone, MakeOutside, MakeSays, MakerFailed, MakerSeen, MakesMedia, MakesAll, MakesFor}
+use Rattle.vdr_live.specs.Makes.{AsksSizes, IsFormattedSince, MadeFailed, MakeOutside, MakeSays, MakerFailed, MakerSeen, MakesMedia, MakesAll}
 use Rattle.vdr_live.specs.MakeParts.{AsksNone, MadeSays, unasked_status}
 
 zeros_closed : (n : ℕ) → IsClosedAt (replicate n 0) 0

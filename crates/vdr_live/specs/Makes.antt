@@ -1,5 +1,5 @@
 -- `make`: the media that a configuration asks for are made and formatted (this project's profile).
-use Rattle.std.specs.Prelude.{◌≡◌, ◌≤◌, ◌<◌, ◌⊎◌, ◌∷◌, ℕ, Bool, false, List, [], String, map, string_bytes, codes, sum, Option, Some, None, Result, Ok, Err, All, ⊤}
+use Rattle.std.specs.Prelude.{◌≡◌, ◌≤◌, ◌<◌, ◌⊎◌, ◌∷◌, ℕ, Bool, false, List, [], String, map, string_bytes, codes, sum, Option, Some, None, Ok, Err, All, ⊤}
 use Rattle.std.specs.Io.KnownBytes.{IsAtEnd}
 use Rattle.std.specs.declared.alloc.Global.{Global}
 use Rattle.vdr_terms.specs.Needs.{Fits}

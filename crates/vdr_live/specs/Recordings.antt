@@ -8,7 +8,7 @@ use Rattle.vdr_durability.specs.Readings.{EndsMeet}
 use Rattle.vdr_outside.specs.Causes.{Rose}
 use Rattle.vdr_outside.specs.Disk.{Image, SameBut}
 use Rattle.vdr_media.specs.Formatted.{IsFormatted, IsUnformatted}
-use Rattle.vdr_opening.specs.Media.{members, Contents, HoldsContents, opening_of, reading_of}
+use Rattle.vdr_opening.specs.Media.{members_with, Contents, HoldsContents, opening_of, reading_of}
 use Rattle.vdr_opening.specs.Refusals.{IsRefused}
 use Rattle.vdr_opening.specs.declared.refused.OpenRefused.{OpenRefused}
 use Rattle.vdr_vault.specs.Calls.{SameElsewhere}
@@ -91,7 +91,7 @@ module _ {tells tells_images : Type 0} (turns : ℕ) (ports_old ports_new : List
     pub openable : tells → IsOpenableWith old.disk.reads (Decides rates end.outcome)
     pub beside : IsUnbegun end.outcome → tells → SameBut 1 old.disk.reads new.disk.reads
     pub missing : IsUnbegun end.outcome → AddsMissing old.disk new.disk
-    pub others : tells → SameElsewhere old.disk.reads new.disk.reads
+    pub others : tells → SameElsewhere (members_with 0) old.disk.reads new.disk.reads
     pub fault : end.outcome ≡ outcomes.MediaFault → MediaFailed old new
 
   -- Opening was refused, or failed: no port and no link was asked, and nothing was recorded.
@@ -108,11 +108,11 @@ module _ {tells tells_images : Type 0} (turns : ℕ) (ports_old ports_new : List
 pub record RecordsAll (image : Image) (status : Status) : Type 0 where
   pub unformatted : IsUnformatted image → (status ≡ Unformatted) ⊎ (status ≡ NoMemory)
   pub damaged : IsFormatted image → (m offset : ℕ) → IsRefused image m offset → (status ≡ Damaged m offset) ⊎ (status ≡ NoMemory)
-  pub place : (x : Contents) → HoldsContents image x → EndsMeet members (reading_of x)
+  pub place : (x : Contents) → HoldsContents image x → EndsMeet (members_with x.further) (reading_of x)
       → 2 ^ 62 ≤ (opening_of x).next_place → (status ≡ Place) ⊎ (status ≡ NoMemory)
-  pub tick : (x : Contents) → HoldsContents image x → EndsMeet members (reading_of x)
+  pub tick : (x : Contents) → HoldsContents image x → EndsMeet (members_with x.further) (reading_of x)
       → (opening_of x).next_place < 2 ^ 62 → 2 ^ 62 ≤ base_after (opening_of x).last → (status ≡ Tick) ⊎ (status ≡ NoMemory)
-  pub done : (x : Contents) → HoldsContents image x → EndsMeet members (reading_of x) → MayBegin (opening_of x) → IsDone status
+  pub done : (x : Contents) → HoldsContents image x → EndsMeet (members_with x.further) (reading_of x) → MayBegin (opening_of x) → IsDone status
 
 -- The port of this group failed.
 abbrev pub IfPortFault : Status → (ℕ → Type 0) → Type 0

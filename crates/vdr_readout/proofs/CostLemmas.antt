@@ -13,7 +13,9 @@ use Rattle.vdr_entry.specs.declared.query.Medium.TheVariants as played
 use Rattle.vdr_directory.specs.Holds.{HoldsPlaced}
 use Rattle.vdr_directory.specs.Sequence.{Placed}
 use Rattle.vdr_directory.proofs.CostLemmas.{reads_more}
-use Rattle.vdr_media.proofs.Two.{of_all, of_each}
+use Rattle.vdr_media.proofs.Members.{of_each}
+use Rattle.vdr_media.proofs.Two.{of_all}
+use Rattle.vdr_opening.specs.Answers.{further_on}
 use Rattle.vdr_ring.specs.Openings.{IsRingOf}
 use Rattle.vdr_opening.specs.Costs.{ReadsToOpen}
 use Rattle.vdr_opening.specs.Media.{Contents, opening_of, parts_of}
@@ -61,20 +63,20 @@ module _ (query : Query) (vault : VaultState) (placed : ℕ → List Placed) (se
 module _ {tells tells_images : Type 0} (old mid new : MediaSeen tells tells_images) (query : Query) (vault : VaultState) (placed : ℕ → List Placed) (opening : Opening)
     (member : medium_of query.medium < 2) (rings : AreRings vault mid.disk.sizes) (still : Unchanged mid.disk new.disk) (readable : IsReadable opening [] vault placed mid.disk) (told : tells) where
   ring_is : (m : ℕ) → m < 2 → IsRingOf vault.config mid.disk.sizes m (ring_of vault m)
-  ring_is m lt = of_each (λ k. IsRingOf vault.config mid.disk.sizes k (ring_of vault k)) rings.each m lt
+  ring_is m lt = of_each (λ k. IsRingOf vault.config mid.disk.sizes k (ring_of vault k)) (further_on vault.rings) rings.each m (omega (arith, lt))
 
   held_at : (m : ℕ) → m < 2 → HoldsPlaced vault.config.segment (slot_count vault.config.segment (get_or new.disk.sizes m 0)) (placed m) (content new.disk.reads m)
   held_at m lt =
       let its = ring_is m lt in
-      let at = of_each (λ k. IsReadableAt opening [] k (ring_of vault k) (placed k) mid.disk) readable.media m lt in
+      let at = of_each (λ k. IsReadableAt opening [] k (ring_of vault k) (placed k) mid.disk) (further_on vault.rings) readable.media m (omega (arith, lt)) in
       holds_as _ _ _ _ _ _ (placed m) mid.disk.reads new.disk.reads its.medium its.segment
       (its.slots ∙ ap (λ (sizes : List ℕ). slot_count vault.config.segment (get_or sizes m 0)) (sym still.sizes)) (sym (still.reads told)) (at.reads.settled.reads told)
 
   -- by the configuration and the incidents that the vault keeps
-  few_of : (text : List ℕ) (held : ℕ → List Placed) (filled : ℕ → Bool) → AreOfSegments query vault placed (span_in vault placed query.medium) → ReadsEachOnce query vault mid.bytes_read new.bytes_read
-      → ReadsToOpen (parts_of (record { config = vault.config; text = text; placed = held; table = vault.table; filled = filled })) old.disk.sizes old.bytes_read mid.bytes_read
-      → ReadsFew query (record { config = vault.config; text = text; placed = held; table = vault.table; filled = filled }) old new
-  few_of text held filled are once opens =
+  few_of : (further : ℕ) (text : List ℕ) (held : ℕ → List Placed) (filled : ℕ → Bool) → AreOfSegments query vault placed (span_in vault placed query.medium) → ReadsEachOnce query vault mid.bytes_read new.bytes_read
+      → ReadsToOpen (parts_of (record { further = further; config = vault.config; text = text; placed = held; table = vault.table; filled = filled })) old.disk.sizes old.bytes_read mid.bytes_read
+      → ReadsFew query (record { further = further; config = vault.config; text = text; placed = held; table = vault.table; filled = filled }) old new
+  few_of further text held filled are once opens =
       let few = met_few query vault placed (ring_is (medium_of query.medium) member).segment (span_in vault placed query.medium) are in
       record {
         placed = placed;
@@ -89,8 +91,8 @@ module _ {tells tells_images : Type 0} (old mid new : MediaSeen tells tells_imag
 
 -- Contents with another configuration and other incidents, which are the same.
 same_contents : (x : Contents) (config : Configuration) (table : List (Option Incident)) → config ≡ x.config → table ≡ x.table
-    → ◌≡◌ {A = Contents} (record { config = config; text = x.text; placed = x.placed; table = table; filled = x.filled }) x
-same_contents x config table configs tables = λ i. record { config = configs i; text = x.text; placed = x.placed; table = tables i; filled = x.filled }
+    → ◌≡◌ {A = Contents} (record { further = x.further; config = config; text = x.text; placed = x.placed; table = table; filled = x.filled }) x
+same_contents x config table configs tables = λ i. record { further = x.further; config = configs i; text = x.text; placed = x.placed; table = tables i; filled = x.filled }
 
 pub reads_few : {tells tells_images : Type 0} (asked : AskedPlay) (old mid new : MediaSeen tells tells_images) (query : Query) (vault : VaultState) (x : Contents) (placed : ℕ → List Placed)
     → query ≡ query_of vault.config asked.medium asked.channel asked.from asked.to → AreRings vault mid.disk.sizes → Unchanged mid.disk new.disk → IsReadable (opening_of x) [] vault placed mid.disk → tells
@@ -101,7 +103,7 @@ reads_few asked old mid new query vault x placed is rings still readable told ar
     let q : Query = query_of vault.config asked.medium asked.channel asked.from asked.to in
     let same = same_contents x vault.config vault.table config table in
     subst (λ (y : Contents). ReadsFew (query_of y.config asked.medium asked.channel asked.from asked.to) y old new) same
-    (few_of old mid new q vault placed (opening_of x) (is_member asked.medium) rings still readable told x.text x.placed x.filled
+    (few_of old mid new q vault placed (opening_of x) (is_member asked.medium) rings still readable told x.further x.text x.placed x.filled
     (subst (λ (p : Query). AreOfSegments p vault placed (span_in vault placed p.medium)) is are)
     (subst (λ (p : Query). ReadsEachOnce p vault mid.bytes_read new.bytes_read) is once)
     (subst (λ (y : Contents). ReadsToOpen (parts_of y) old.disk.sizes old.bytes_read mid.bytes_read) (sym same) opens))

@@ -1,6 +1,6 @@
 -- What a command that reads records out says of damage, from what opening and one read of the recorder ensure.
 use Rattle.std.specs.Prelude.{Contains}
-use Rattle.std.proofs.Common.{◌≡◌, ◌<◌, ℕ, List, Option, Some, None, sym, ap, subst, ◌∙◌, arith}
+use Rattle.std.proofs.Common.{◌≡◌, ◌<◌, ◌+◌, ℕ, List, Option, Some, None, sym, ap, subst, ◌∙◌, arith}
 use Rattle.vdr_terms.specs.Queries.{Query, Span}
 use Rattle.vdr_core.specs.Histories as histories
 use Rattle.vdr_outside.specs.Disk.{Disk, Image, Unchanged, content}
@@ -17,7 +17,8 @@ use Rattle.vdr_directory.specs.Telling.{TellsBy}
 use Rattle.vdr_ring.specs.Damage.{IsDamagedIn, IsIntact}
 use Rattle.vdr_ring.specs.Openings.{IsRingOf}
 use Rattle.vdr_ring.specs.Rings.{RingState}
-use Rattle.vdr_media.proofs.Two.{of_each}
+use Rattle.vdr_media.proofs.Members.{of_each}
+use Rattle.vdr_opening.specs.Answers.{further_on}
 use Rattle.vdr_opening.specs.Media.{Contents, HoldsParts, IsMediumBy}
 use Rattle.vdr_vault.specs.Openings.{IsLeftAsRead, IsToldBy, TellsOfParts}
 use Rattle.vdr_vault.specs.Plays.{IsKnownToMeetIn, KnowsToMeet, MeetsFor, MeetsWithin, TellsDamageOf, ring_for, span_among, span_by}
@@ -58,7 +59,7 @@ module _ {tells tells_images : Type 0} where
     m = number_asked asked
 
     its : IsRingOf vault.config mid.sizes m (ring_of vault m)
-    its = of_each (λ k. IsRingOf vault.config mid.sizes k (ring_of vault k)) rings.each m (asked_two asked.medium)
+    its = of_each (λ k. IsRingOf vault.config mid.sizes k (ring_of vault k)) (further_on vault.rings) rings.each m (let two = asked_two asked.medium in omega (arith, two))
 
     module _ (t : tells) (x : Contents) (holds : HoldsParts old.reads x) (told : IsToldBy x vault) where
       abbrev wanted : Query
@@ -82,10 +83,13 @@ module _ {tells tells_images : Type 0} where
       content_is : content mid.reads (ring_of vault m).medium ≡ content new.reads m
       content_is = ap (λ (k : ℕ). content mid.reads k) its.medium ∙ ap (λ (i : Image). content i m) (sym (unchanged.reads t))
 
+      inside : m < 2 + x.further
+      inside = let two = asked_two asked.medium in omega (arith, two)
+
       knows : IsLeftAsRead x m → KnowsToMeet wanted vault x.placed
       knows left =
-          law wanted vault x.placed (of_each (λ k. IsLeftAsRead x k → TellsBy (ring_of vault k).slots (x.placed k) (ring_of vault k).directory) (known x t holds) m (asked_two asked.medium) left)
-          (of_each (λ k. IsMediumBy k x.config x.text (x.placed k) (content old.reads k)) holds.media m (asked_two asked.medium)).segments.order
+          law wanted vault x.placed (of_each (λ k. IsLeftAsRead x k → TellsBy (ring_of vault k).slots (x.placed k) (ring_of vault k).directory) x.further (known x t holds) m inside left)
+          (of_each (λ k. IsMediumBy k x.config x.text (x.placed k) (content old.reads k)) x.further holds.media m inside).segments.order
 
       meets_asked : (p : Placed) → Contains (x.placed m) p → MeetsWithin wanted (span_among vault.config vault.table x.placed wanted.medium) p → MeetsAsked asked x p
       meets_asked p there meets = record { there = there; meets = subst (λ (span : Option Span). MeetsWithin wanted span p) span_is meets }

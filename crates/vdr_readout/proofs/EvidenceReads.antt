@@ -1,33 +1,30 @@
 -- The text of the configuration is read between opening and a visit: what is said of the visit is so of the media as they were opened.
 use Rattle.std.specs.Prelude.{Bool, Option, sum, true, false, ⊤}
-use Rattle.std.proofs.Common.{◌≡◌, ◌≤◌, ◌<◌, ◌⊎◌, inl, inr, ℕ, ℤ, pos, List, [], length, get_or, Result, Ok, Err, refl, sym, ap, ◌∙◌, subst, arith}
+use Rattle.std.proofs.Common.{◌≡◌, ◌≤◌, ◌<◌, ◌⊎◌, inr, ℕ, pos, List, [], length, get_or, Result, Err, refl, sym, subst, arith}
 use Rattle.vdr_terms.specs.Queries.{Query}
 use Rattle.vdr_terms.specs.Records.{Record}
-use Rattle.vdr_core.specs.Histories.{Event, Incident, Opening}
 use Rattle.vdr_durability.specs.Readings.{AreLevel, EndsMeet}
 use Rattle.vdr_durability.specs.Playback.{medium_of}
 use Rattle.vdr_outside.specs.Causes.{NoneFalls, Rose}
-use Rattle.vdr_outside.specs.Disk.{Disk, Image, SameBut, Unchanged, content}
+use Rattle.vdr_outside.specs.Disk.{Disk, SameBut, Unchanged, content}
 use Rattle.vdr_outside.specs.declared.fault.PartRefused.{PartRefused}
 use Rattle.vdr_outside.specs.declared.fault.PartRefused.TheVariants as parts
 use Rattle.vdr_outside.proofs.Counts.{sum_rose}
 use Rattle.vdr_config.specs.Configuration.{Configuration}
 use Rattle.vdr_directory.specs.Opening.{HasFaultCause}
-use Rattle.vdr_directory.specs.Sequence.{Placed}
 use Rattle.vdr_entry.specs.declared.query.Medium.TheVariants.{Capsule}
 use Rattle.vdr_media.specs.Medium.{HoldsText}
 use Rattle.vdr_media.proofs.Rooms.{text_fits}
-use Rattle.vdr_media.proofs.Two.{of_each}
-use Rattle.vdr_ring.specs.Meets.{AreApart}
+use Rattle.vdr_media.proofs.Members.{of_each}
+use Rattle.vdr_opening.specs.Answers.{further_on}
 use Rattle.vdr_ring.specs.Openings.{IsRingOf}
-use Rattle.vdr_ring.specs.Rings.{RingState}
 use Rattle.vdr_ring.proofs.CursorReading.{other_read}
-use Rattle.vdr_opening.specs.Media.{members, Contents, HasFront, HoldsContents, HoldsParts, IsMedium, IsMediumBy, opening_of, reading_of}
+use Rattle.vdr_opening.specs.Media.{members_with, Contents, HasFront, HoldsContents, IsMedium, IsMediumBy, opening_of, reading_of}
 use Rattle.vdr_opening.specs.Parts.{HasRoomBefore}
 use Rattle.vdr_opening.specs.declared.refused.OpenRefused.{OpenRefused}
 use Rattle.vdr_opening.proofs.ContentsHeld.{one_text}
-use Rattle.vdr_vault.specs.Openings.{IsToldBy, OpensAtEachMoment}
-use Rattle.vdr_vault.specs.Plays.{ReadsOn, TellsDamageOf, ring_for}
+use Rattle.vdr_vault.specs.Openings.{OpensAtEachMoment}
+use Rattle.vdr_vault.specs.Plays.{ReadsOn, TellsDamageOf}
 use Rattle.vdr_vault.specs.Refusals.{HasVisitCause}
 use Rattle.vdr_vault.specs.Vaults.{AreRings, IsReadable, ShowsHistory, VaultState, ring_of}
 use Rattle.vdr_vault.specs.Visits.{HasOnlyRead, HasVisited}
@@ -48,7 +45,6 @@ use Rattle.vdr_command.specs.declared.status.Status.TheVariants.{Damaged, MediaF
 use Rattle.vdr_command.proofs.OpenedLemmas.{OpenedOn}
 use Rattle.vdr_readout.specs.Reads.{AskedPlay, PlayEnds, all_records, query_of}
 use Rattle.vdr_readout.specs.Telling.{status_of_part}
-use Rattle.vdr_readout.proofs.DamageLemmas.{IsTold}
 use Rattle.vdr_readout.proofs.ReadLemmas.{Wants, read_ends, wanted_so}
 
 -- ---- the text
@@ -56,7 +52,7 @@ use Rattle.vdr_readout.proofs.ReadLemmas.{Wants, read_ends, wanted_so}
 -- There is room for it on the capsule.
 pub room_before : (vault : VaultState) (sizes : List ℕ) → AreRings vault sizes → HasRoomBefore 0 sizes
 room_before vault sizes rings =
-    let its = of_each (λ k. IsRingOf vault.config sizes k (ring_of vault k)) rings.each 0 (omega arith) in
+    let its = of_each (λ k. IsRingOf vault.config sizes k (ring_of vault k)) (further_on vault.rings) rings.each 0 (omega arith) in
     let there = its.room.there in
     let room = its.room.room in
     record {
@@ -75,14 +71,14 @@ module _ {tells tells_images : Type 0} (old mid : Disk tells tells_images) (othe
 
   pub text_held : (x : Contents) → tells → HoldsContents old.reads x → (text : List ℕ) → HoldsText text (content mid.reads 0) → length text ≤ 16380 → text ≡ x.text
   text_held x t holds text held short =
-      text_is x.config x.text text (content old.reads 0) (of_each (λ m. IsMedium m x.config x.text (x.placed m) (content old.reads m)) holds.media 0 (omega arith)).front
+      text_is x.config x.text text (content old.reads 0) (of_each (λ m. IsMedium m x.config x.text (x.placed m) (content old.reads m)) x.further holds.media 0 (omega arith)).front
       (subst (λ (bytes : List ℕ). HoldsText text bytes) (capsule_is t) held) short
 
   -- There is one where the media were opened.
   pub has_text : (vault : VaultState) → OpenedOn old vault → tells → ((text : List ℕ) → length text ≤ 16380 → HoldsText text (content mid.reads 0) → ⊥) → ⊥
   has_text vault parts t none =
       let p = parts t in
-      let front = (of_each (λ m. IsMediumBy m p.1.config p.1.text (p.1.placed m) (content old.reads m)) p.2.media 0 (omega arith)).front in
+      let front = (of_each (λ m. IsMediumBy m p.1.config p.1.text (p.1.placed m) (content old.reads m)) p.1.further p.2.media 0 (omega arith)).front in
       none p.1.text (text_fits p.1.text p.1.config front.configured.reads)
       (subst (λ (bytes : List ℕ). HoldsText p.1.text bytes) (sym (capsule_is t)) front.configured.holds_text)
 
@@ -154,10 +150,10 @@ module _ {tells tells_images : Type 0} (asked : AskedPlay) (old mid new : MediaS
     (works : r.vault.failed ≡ false) (parts_are : OpenedOn old.disk r.vault)
     (opened : (x : Contents) → tells → HoldsContents old.disk.reads x → WasRecorded x
     → (t0 : ℕ) × (old.disk.clock ≤ t0) × (t0 ≤ mid.disk.clock) × HasRecorded (opening_of x) [] t0 r mid.disk)
-    (readable : (x : Contents) → tells → HoldsContents old.disk.reads x → AreLevel members (reading_of x) → IsReadable (opening_of x) [] r.vault x.placed mid.disk)
+    (readable : (x : Contents) → tells → HoldsContents old.disk.reads x → AreLevel (members_with x.further) (reading_of x) → IsReadable (opening_of x) [] r.vault x.placed mid.disk)
     (later : NoneFalls old.faults mid.faults) (others : tells → SameBut 1 old.disk.reads mid.disk.reads)
     {T : Type 0} (result : Result T OpenRefused)
-    (moments : (x : Contents) → tells → HoldsContents old.disk.reads x → EndsMeet members (reading_of x) → WasRecorded x → OpensAtEachMoment old.disk mid.disk result (ShowsHistory (opening_of x) []))
+    (moments : (x : Contents) → tells → HoldsContents old.disk.reads x → EndsMeet (members_with x.further) (reading_of x) → WasRecorded x → OpensAtEachMoment old.disk mid.disk result (ShowsHistory (opening_of x) []))
     (rings : AreRings r.vault mid.disk.sizes) (same : Unchanged mid.disk new.disk) where
   true_false : {P : Type 0} (b : Bool) → b ≡ true → b ≡ false → P
   true_false b t f = let none : ⊥ = cc in absurd none

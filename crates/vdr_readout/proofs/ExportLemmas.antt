@@ -12,7 +12,7 @@ use Rattle.vdr_outside.specs.Causes.{NoneFalls}
 use Rattle.vdr_outside.specs.Disk.{SameBut}
 use Rattle.vdr_config.specs.Configuration.{Configuration}
 use Rattle.vdr_directory.specs.Sequence.{Placed}
-use Rattle.vdr_opening.specs.Media.{members, Contents, HoldsContents, opening_of, reading_of}
+use Rattle.vdr_opening.specs.Media.{members_with, Contents, HoldsContents, opening_of, reading_of}
 use Rattle.vdr_opening.specs.declared.refused.OpenRefused.{OpenRefused}
 use Rattle.vdr_opening.specs.declared.refused.OpenRefused.TheVariants as openings
 use Rattle.vdr_recorder.specs.Looks.{HasLooked}
@@ -126,7 +126,7 @@ module _ {tells tells_images : Type 0} (wish : Wish) (asked : AskedPlay) (old ne
   pub channel_exports : {T : Type 0} (result : Result T OpenRefused) (r : T) → result ≡ Ok r
       → (vault : VaultState) → LacksChannel vault.config asked.channel → OpenedOn old.media.disk vault → TellsOn old.media.disk vault
       → (tells → SameBut 1 old.media.disk.reads new.media.disk.reads)
-      → ((x : Contents) → tells → HoldsContents old.media.disk.reads x → EndsMeet members (reading_of x) → WasRecorded x → OpensAtEachMoment old.media.disk new.media.disk result (ShowsHistory (opening_of x) []))
+      → ((x : Contents) → tells → HoldsContents old.media.disk.reads x → EndsMeet (members_with x.further) (reading_of x) → WasRecorded x → OpensAtEachMoment old.media.disk new.media.disk result (ShowsHistory (opening_of x) []))
       → Writes (channel_line asked.channel) old.output new.output → AddsMissing old.media.disk new.media.disk → ExportEnds wish asked old new ends.NoChannel
   channel_exports result r is vault lacks parts contents others moments wrote adds = record {
     own = tt;
@@ -149,7 +149,7 @@ module _ {tells tells_images : Type 0} (wish : Wish) (asked : AskedPlay) (old ne
       (parts : OpenedOn old.media.disk r.vault) (contents : TellsOn old.media.disk r.vault)
       (opened : (x : Contents) → tells → HoldsContents old.media.disk.reads x → WasRecorded x
       → (t0 : ℕ) × (old.media.disk.clock ≤ t0) × (t0 ≤ mid.disk.clock) × HasRecorded (opening_of x) [] t0 r mid.disk)
-      (readable : (x : Contents) → tells → HoldsContents old.media.disk.reads x → AreLevel members (reading_of x) → IsReadable (opening_of x) [] r.vault x.placed mid.disk)
+      (readable : (x : Contents) → tells → HoldsContents old.media.disk.reads x → AreLevel (members_with x.further) (reading_of x) → IsReadable (opening_of x) [] r.vault x.placed mid.disk)
       (later : NoneFalls old.media.faults mid.faults) (others : tells → SameBut 1 old.media.disk.reads mid.disk.reads) (adds : AddsMissing old.media.disk new.media.disk) where
     -- What can be read can be read by the vault.
     to_read : (x : Contents) → tells → HoldsContents old.media.disk.reads x → CanBeRead x → (placed : ℕ → List Placed) × IsReadable (opening_of x) [] r.vault placed mid.disk
@@ -160,7 +160,7 @@ module _ {tells tells_images : Type 0} (wish : Wish) (asked : AskedPlay) (old ne
     to_read x t holds (inr level) = (x.placed, readable x t holds level)
 
     module _ {T : Type 0} (result : Result T OpenRefused)
-        (moments : (x : Contents) → tells → HoldsContents old.media.disk.reads x → EndsMeet members (reading_of x) → WasRecorded x → OpensAtEachMoment old.media.disk mid.disk result (ShowsHistory (opening_of x) [])) where
+        (moments : (x : Contents) → tells → HoldsContents old.media.disk.reads x → EndsMeet (members_with x.further) (reading_of x) → WasRecorded x → OpensAtEachMoment old.media.disk mid.disk result (ShowsHistory (opening_of x) [])) where
       -- How the media ended, by the end of a visit that stands for it.
       media_so : (ended : Result ⊤ (VisitRefused Status)) → IsAccepted (lacks_channel (length r.vault.config.channels) query.channel) (lacks_incident r.vault.table query.medium) ended
           → ((opening : Opening) (events : List Event) (placed : ℕ → List Placed) (m offset : ℕ) → tells → IsReadable opening events r.vault placed mid.disk → ended ≡ Err (stops.Damaged m offset) → ⊥)

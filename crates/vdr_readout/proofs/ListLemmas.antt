@@ -4,7 +4,7 @@ use Rattle.vdr_core.specs.Histories.{Event}
 use Rattle.vdr_durability.specs.Readings.{EndsMeet}
 use Rattle.vdr_outside.specs.Disk.{SameBut}
 use Rattle.vdr_directory.specs.Sequence.{Placed}
-use Rattle.vdr_opening.specs.Media.{members, Contents, HoldsContents, opening_of, reading_of}
+use Rattle.vdr_opening.specs.Media.{members_with, Contents, HoldsContents, opening_of, reading_of}
 use Rattle.vdr_opening.specs.declared.refused.OpenRefused.{OpenRefused}
 use Rattle.vdr_vault.specs.Openings.{OpensAtEachMoment}
 use Rattle.vdr_vault.specs.Vaults.{VaultState, ShowsHistory, Stands}
@@ -25,7 +25,7 @@ module _ {tells tells_images : Type 0} where
       → (vault : VaultState) → OpenedOn old.disk vault
       → ((x : Contents) → tells → HoldsContents old.disk.reads x → WasRecorded x → (placed : ℕ → List Placed) × Stands (opening_of x) [] vault placed new.disk)
       → (tells → SameBut 1 old.disk.reads new.disk.reads)
-      → ((x : Contents) → tells → HoldsContents old.disk.reads x → EndsMeet members (reading_of x) → WasRecorded x → OpensAtEachMoment old.disk new.disk result (ShowsHistory (opening_of x) []))
+      → ((x : Contents) → tells → HoldsContents old.disk.reads x → EndsMeet (members_with x.further) (reading_of x) → WasRecorded x → OpensAtEachMoment old.disk new.disk result (ShowsHistory (opening_of x) []))
       → (status : Status) → IsWorkDone status → MediaEnds CanList (λ m offset. ⊥) AreLooks old new status
   listed_ends old new result r is vault parts stands others moments status done =
       worked_ends CanList (λ m offset. ⊥) AreLooks old new status done (opened_so CanList old.disk vault parts (λ x read. tt)) others

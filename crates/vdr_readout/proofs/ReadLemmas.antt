@@ -17,7 +17,7 @@ use Rattle.vdr_config.specs.Configuration.{Configuration}
 use Rattle.vdr_entry.specs.Queries.{asked_medium}
 use Rattle.vdr_entry.specs.declared.query.Medium.{Medium as Played}
 use Rattle.vdr_directory.specs.Sequence.{Placed}
-use Rattle.vdr_opening.specs.Media.{members, Contents, HoldsContents, opening_of, reading_of}
+use Rattle.vdr_opening.specs.Media.{members_with, Contents, HoldsContents, opening_of, reading_of}
 use Rattle.vdr_opening.specs.declared.refused.OpenRefused.{OpenRefused}
 use Rattle.vdr_recorder.specs.Recordings.{HasRecorded, RecorderState}
 use Rattle.vdr_recorder.specs.Looks.{HasLooked}
@@ -67,7 +67,7 @@ module _ {tells tells_images R : Type 0} (asked : AskedPlay) (old mid new : Medi
     (parts : OpenedOn old.disk r.vault)
     (opened : (x : Contents) → tells → HoldsContents old.disk.reads x → WasRecorded x
     → (t0 : ℕ) × (old.disk.clock ≤ t0) × (t0 ≤ mid.disk.clock) × HasRecorded (opening_of x) [] t0 r mid.disk)
-    (readable : (x : Contents) → tells → HoldsContents old.disk.reads x → AreLevel members (reading_of x) → IsReadable (opening_of x) [] r.vault x.placed mid.disk) where
+    (readable : (x : Contents) → tells → HoldsContents old.disk.reads x → AreLevel (members_with x.further) (reading_of x) → IsReadable (opening_of x) [] r.vault x.placed mid.disk) where
   -- The query's channel is there, so that only its incident may be missing.
   channel_is_there : lacks_channel (length r.vault.config.channels) query.channel ≡ false
   channel_is_there = subst (λ (q : Query). lacks_channel (length r.vault.config.channels) q.channel ≡ false) (sym wants.is) (asked_within r.vault.config asked.channel)
@@ -99,7 +99,7 @@ module _ {tells tells_images R : Type 0} (asked : AskedPlay) (old mid new : Medi
       (looked : HasLooked query r after mid.disk new.disk mid.bytes_read new.bytes_read mid.faults new.faults (ended ≡ Err stops.Fault)) (later : NoneFalls old.faults mid.faults)
       (others : tells → SameBut 1 old.disk.reads mid.disk.reads) (status_of : R → Status) (own : IfItself ended (λ reason. IsOwnStatus (status_of reason))) where
     module _ {T : Type 0} (result : Result T OpenRefused)
-        (moments : (x : Contents) → tells → HoldsContents old.disk.reads x → EndsMeet members (reading_of x) → WasRecorded x → OpensAtEachMoment old.disk mid.disk result (ShowsHistory (opening_of x) [])) where
+        (moments : (x : Contents) → tells → HoldsContents old.disk.reads x → EndsMeet (members_with x.further) (reading_of x) → WasRecorded x → OpensAtEachMoment old.disk mid.disk result (ShowsHistory (opening_of x) [])) where
       -- What was looked at stays as it was.
       looked_at : (x : Contents) → tells → HoldsContents old.disk.reads x → WasRecorded x → (event : Event) → event.act ≡ Look → ShowsHistory (opening_of x) (event ∷ []) new.disk.reads
       looked_at x t holds regular event is =
@@ -108,7 +108,7 @@ module _ {tells tells_images R : Type 0} (asked : AskedPlay) (old mid new : Medi
           (stands_silent (opening_of x) [] event (ap (λ (a : Act). records_of_act a) is) (ap (λ (a : Act). table_after (given (opening_of x) 1 []) (incidents (opening_of x) []) a) is)
           r.vault stands.0 new.disk (stands_still (opening_of x) [] r.vault stands.0 mid.disk new.disk looked.read.unchanged stands.1)) t
 
-      kept_with_look : (status : Status) (x : Contents) → tells → HoldsContents old.disk.reads x → EndsMeet members (reading_of x) → WasRecorded x → KeepsContents x AreLooks status old.disk new.disk
+      kept_with_look : (status : Status) (x : Contents) → tells → HoldsContents old.disk.reads x → EndsMeet (members_with x.further) (reading_of x) → WasRecorded x → KeepsContents x AreLooks status old.disk new.disk
       kept_with_look status x t holds meet regular =
           let has = opened x t holds regular in
           let done = looked.done (opening_of x) [] has.0 has.3 in

@@ -11,7 +11,7 @@ use Rattle.vdr_config.specs.Configuration.{Configuration}
 use Rattle.vdr_entry.specs.Queries.{asked_medium}
 use Rattle.vdr_entry.specs.declared.query.Medium.{Medium as Played}
 use Rattle.vdr_entry.specs.declared.query.Medium.TheVariants.{Capsule, LongTerm, Incident}
-use Rattle.vdr_opening.specs.Media.{members, Contents, HoldsContents, opening_of, reading_of}
+use Rattle.vdr_opening.specs.Media.{members_with, Contents, HoldsContents, opening_of, reading_of}
 use Rattle.vdr_opening.specs.declared.refused.OpenRefused.{OpenRefused}
 use Rattle.vdr_opening.specs.declared.refused.OpenRefused.TheVariants as openings
 use Rattle.vdr_vault.specs.Openings.{OpensAtEachMoment}
@@ -96,7 +96,7 @@ module _ {tells tells_images : Type 0} where
   pub channel_ends : {T : Type 0} (asked : AskedPlay) (old new : MediaSeen tells tells_images) (result : Result T OpenRefused) (r : T) → result ≡ Ok r
       → (vault : VaultState) → LacksChannel vault.config asked.channel → OpenedOn old.disk vault
       → (tells → SameBut 1 old.disk.reads new.disk.reads)
-      → ((x : Contents) → tells → HoldsContents old.disk.reads x → EndsMeet members (reading_of x) → WasRecorded x → OpensAtEachMoment old.disk new.disk result (ShowsHistory (opening_of x) []))
+      → ((x : Contents) → tells → HoldsContents old.disk.reads x → EndsMeet (members_with x.further) (reading_of x) → WasRecorded x → OpensAtEachMoment old.disk new.disk result (ShowsHistory (opening_of x) []))
       → PlayEnds asked old new NoChannel
   channel_ends asked old new result r is vault lacks parts others moments = record {
     media = record {
@@ -169,7 +169,7 @@ module _ {tells tells_images : Type 0} where
       (old new : Outside tells tells_images) (result : Result T OpenRefused) (r : T) → result ≡ Ok r
       → (vault : VaultState) → LacksChannel vault.config asked.channel → OpenedOn old.media.disk vault
       → (tells → SameBut 1 old.media.disk.reads new.media.disk.reads)
-      → ((x : Contents) → tells → HoldsContents old.media.disk.reads x → EndsMeet members (reading_of x) → WasRecorded x → OpensAtEachMoment old.media.disk new.media.disk result (ShowsHistory (opening_of x) []))
+      → ((x : Contents) → tells → HoldsContents old.media.disk.reads x → EndsMeet (members_with x.further) (reading_of x) → WasRecorded x → OpensAtEachMoment old.media.disk new.media.disk result (ShowsHistory (opening_of x) []))
       → Writes (channel_line asked.channel) old.output new.output → AddsMissing old.media.disk new.media.disk → ReadsOut asked Has Stops status_of line last old new NoChannel
   channel_reads asked Has Stops status_of line last old new result r is vault lacks parts others moments wrote missing = record {
     shown = (wrote, lacks.0);

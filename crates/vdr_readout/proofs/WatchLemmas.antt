@@ -1,5 +1,5 @@
 -- What `watch` owes, from what its lines are.
-use Rattle.std.proofs.Common.{◌≡◌, ℕ, List, subst}
+use Rattle.std.proofs.Common.{ℕ, List, subst}
 use Rattle.vdr_entry.specs.declared.query.Medium.{Medium}
 use Rattle.vdr_teller.proofs.Wholes.{all_shown, closing, lines_shown, shown}
 use Rattle.vdr_command.specs.Opened.{PrintsText}

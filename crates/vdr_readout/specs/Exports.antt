@@ -15,7 +15,7 @@ use Rattle.vdr_export.specs.Wishes.{kind_at, timed_from, wished}
 use Rattle.vdr_export.specs.declared.timing.Timing.TheVariants.{Numbered}
 use Rattle.vdr_export.specs.declared.wish.Wish.{Wish}
 use Rattle.vdr_export.specs.declared.wish.Wish.TheVariants.{Sound, Picture, Listing}
-use Rattle.vdr_opening.specs.Media.{members, Contents, HoldsContents, reading_of}
+use Rattle.vdr_opening.specs.Media.{members_with, Contents, HoldsContents, reading_of}
 use Rattle.vdr_control.specs.Orders.PlainOrder.{Play as PlayOrder}
 use Rattle.vdr_control.specs.Plays.{SpellsPlay}
 use Rattle.vdr_command.specs.Endings.{IsDone}
@@ -139,14 +139,14 @@ module _ {tells tells_images : Type 0} where
 -- What can be made is made, and what can't is refused by its own refusal, or there was no memory.
 pub record ExportsAll (wish : Wish) (asked : AskedPlay) (image : Image) (status : Status) : Type 0 where
   pub refused : RefusesAll image status
-  pub channel : (x : Contents) → HoldsContents image x → EndsMeet members (reading_of x) → LacksChannel x.config asked.channel → (status ≡ NoChannel) ⊎ (status ≡ NoMemory)
-  pub incident : (x : Contents) (id : ℕ) → HoldsContents image x → EndsMeet members (reading_of x) → (LacksChannel x.config asked.channel → ⊥) → asked.medium ≡ Incident id
+  pub channel : (x : Contents) → HoldsContents image x → EndsMeet (members_with x.further) (reading_of x) → LacksChannel x.config asked.channel → (status ≡ NoChannel) ⊎ (status ≡ NoMemory)
+  pub incident : (x : Contents) (id : ℕ) → HoldsContents image x → EndsMeet (members_with x.further) (reading_of x) → (LacksChannel x.config asked.channel → ⊥) → asked.medium ≡ Incident id
       → live x.table id ≡ None → (status ≡ NoIncident id) ⊎ (status ≡ NoMemory)
-  pub kind : (x : Contents) → HoldsContents image x → EndsMeet members (reading_of x) → CanPlay x asked.medium asked.channel → file_in wish x.config asked.channel ≡ None
+  pub kind : (x : Contents) → HoldsContents image x → EndsMeet (members_with x.further) (reading_of x) → CanPlay x asked.medium asked.channel → file_in wish x.config asked.channel ≡ None
       → (status ≡ ExportKind) ⊎ (status ≡ NoMemory)
-  pub none : (x : Contents) (file : File) (why : ExportRefused) → HoldsContents image x → EndsMeet members (reading_of x) → CanBeRead x → CanPlay x asked.medium asked.channel
+  pub none : (x : Contents) (file : File) (why : ExportRefused) → HoldsContents image x → EndsMeet (members_with x.further) (reading_of x) → CanBeRead x → CanPlay x asked.medium asked.channel
       → file_in wish x.config asked.channel ≡ Some file → made_of x asked file ≡ Err why → (status ≡ status_of_export (Err why)) ⊎ (status ≡ NoMemory)
-  pub done : (x : Contents) (file : File) (bytes : List ℕ) → HoldsContents image x → EndsMeet members (reading_of x) → CanBeRead x → CanPlay x asked.medium asked.channel
+  pub done : (x : Contents) (file : File) (bytes : List ℕ) → HoldsContents image x → EndsMeet (members_with x.further) (reading_of x) → CanBeRead x → CanPlay x asked.medium asked.channel
       → file_in wish x.config asked.channel ≡ Some file → made_of x asked file ≡ Ok bytes → IsDone status
 
 -- What `wav`, `picture` and `pictures` owe.

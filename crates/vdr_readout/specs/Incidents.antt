@@ -3,7 +3,7 @@ use Rattle.std.specs.Prelude.{◌≡◌, ◌⊎◌, ◌∷◌, [], codes, ⊤}
 use Rattle.vdr_durability.specs.Readings.{EndsMeet}
 use Rattle.vdr_outside.specs.Disk.{Image}
 use Rattle.vdr_opening.specs.Costs.{ReadsToOpen}
-use Rattle.vdr_opening.specs.Media.{members, Contents, HoldsContents, HoldsParts, reading_of}
+use Rattle.vdr_opening.specs.Media.{members_with, Contents, HoldsContents, HoldsParts, reading_of}
 use Rattle.vdr_teller.specs.Incidents.{incidents_text}
 use Rattle.vdr_command.specs.Endings.{IsDone, IsWorkDone}
 use Rattle.vdr_command.specs.Opened.{AddsMissing, AreLooks, MediaEnds, PrintsText, RefusesAll}
@@ -29,7 +29,7 @@ CanList x = ⊤
 -- What is legible is listed, and what can't be opened is refused by its own refusal, or there was no memory.
 pub record ListsAll (image : Image) (status : Status) : Type 0 where
   pub refused : RefusesAll image status
-  pub done : (x : Contents) → HoldsContents image x → EndsMeet members (reading_of x) → IsDone status
+  pub done : (x : Contents) → HoldsContents image x → EndsMeet (members_with x.further) (reading_of x) → IsDone status
 
 -- Where the work was done, no more was read of the media than opening reads.
 abbrev pub HasOnlyOpened : {tells tells_images : Type 0} → (old new : MediaSeen tells tells_images) → Status → Type 0

@@ -11,7 +11,7 @@ use Rattle.vdr_media.specs.Medium.{HoldsText}
 use Rattle.vdr_entry.specs.declared.query.Medium.{Medium}
 use Rattle.vdr_entry.specs.declared.query.Medium.TheVariants.{Capsule, LongTerm, Incident}
 use Rattle.vdr_control.specs.Plays.{medium_word}
-use Rattle.vdr_opening.specs.Media.{members, Contents, HoldsParts, reading_of}
+use Rattle.vdr_opening.specs.Media.{members_with, Contents, HoldsParts, reading_of}
 use Rattle.vdr_opening.specs.Refusals.{IsRefused}
 use Rattle.vdr_rescue.specs.Saves.{AreSaves, SavesState, saved_slots}
 use Rattle.vdr_info.specs.Helds.{none_held}
@@ -41,7 +41,7 @@ info_text info = medium_line info.capsule ++ medium_line info.long_term ++ below
 -- What can be opened is told, and what can't is refused by its own refusal, or there was no memory.
 pub record InformsAll (image : Image) (status : Status) : Type 0 where
   pub refused : RefusesAll image status
-  pub done : (x : Contents) → HoldsParts image x → EndsMeet members (reading_of x) → IsDone status
+  pub done : (x : Contents) → HoldsParts image x → EndsMeet (members_with x.further) (reading_of x) → IsDone status
 
 module _ {tells tells_images : Type 0} (old new : Outside tells tells_images) (status : Status) where
   -- This was read of the media, and is printed.

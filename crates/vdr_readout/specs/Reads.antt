@@ -18,7 +18,7 @@ use Rattle.vdr_entry.specs.Queries.{asked_medium}
 use Rattle.vdr_entry.specs.declared.query.Medium.{Medium}
 use Rattle.vdr_entry.specs.declared.query.Medium.TheVariants.{Capsule, LongTerm, Incident}
 use Rattle.vdr_opening.specs.Costs.{ReadsToOpen}
-use Rattle.vdr_opening.specs.Media.{members, Contents, HoldsContents, opening_of, parts_of, reading_of}
+use Rattle.vdr_opening.specs.Media.{members_with, Contents, HoldsContents, opening_of, parts_of, reading_of}
 use Rattle.vdr_directory.specs.Opening.{slot_bytes}
 use Rattle.vdr_ring.specs.Damage.{IsDamagedIn, IsIntact}
 use Rattle.vdr_vault.specs.Openings.{IsLeftAsRead}
@@ -34,6 +34,7 @@ use Rattle.vdr_command.specs.StatusLine.{channel_line}
 use Rattle.vdr_command.specs.declared.status.Status.{Status}
 use Rattle.vdr_command.specs.declared.status.Status.TheVariants.{Done, Words, Unformatted, Damaged, MediaFault, OutputFault, NoMemory, NoChannel, NoIncident, Missing}
 use Rattle.vdr_readout.specs.declared.reading.Wanted.{Wanted}
+use Rattle.vdr_media.specs.Formatted.{members}
 
 -- What is asked for: the medium or the incident, the channel's name, and the first and the last stamp.
 pub record AskedPlay : Type 0 where
@@ -69,7 +70,7 @@ LacksIncident table (Incident id) = live table id ≡ None
 
 -- What a recorder left can be read, and what is legible where both media end with the last batch.
 abbrev pub CanBeRead : Contents → Type 0
-CanBeRead x = WasRecorded x ⊎ AreLevel members (reading_of x)
+CanBeRead x = WasRecorded x ⊎ AreLevel (members_with x.further) (reading_of x)
 
 -- Channel and incident are there.
 pub record CanPlay (x : Contents) (medium : Medium) (name : List ℕ) : Type 0 where
@@ -235,7 +236,7 @@ module _ {tells tells_images : Type 0} where
 -- What may be read out is, and what may not is refused by its own refusal, or there was no memory.
 pub record PlaysAll (medium : Medium) (name : List ℕ) (image : Image) (status : Status) : Type 0 where
   pub refused : RefusesAll image status
-  pub channel : (x : Contents) → HoldsContents image x → EndsMeet members (reading_of x) → LacksChannel x.config name → (status ≡ NoChannel) ⊎ (status ≡ NoMemory)
-  pub incident : (x : Contents) (id : ℕ) → HoldsContents image x → EndsMeet members (reading_of x) → (LacksChannel x.config name → ⊥) → medium ≡ Incident id
+  pub channel : (x : Contents) → HoldsContents image x → EndsMeet (members_with x.further) (reading_of x) → LacksChannel x.config name → (status ≡ NoChannel) ⊎ (status ≡ NoMemory)
+  pub incident : (x : Contents) (id : ℕ) → HoldsContents image x → EndsMeet (members_with x.further) (reading_of x) → (LacksChannel x.config name → ⊥) → medium ≡ Incident id
       → live x.table id ≡ None → (status ≡ NoIncident id) ⊎ (status ≡ NoMemory)
-  pub done : (x : Contents) → HoldsContents image x → EndsMeet members (reading_of x) → CanBeRead x → CanPlay x medium name → IsDone status
+  pub done : (x : Contents) → HoldsContents image x → EndsMeet (members_with x.further) (reading_of x) → CanBeRead x → CanPlay x medium name → IsDone status

@@ -10,7 +10,6 @@ use Rattle.vdr_import.specs.Imports.{IfRefusedBehind, imported}
 use Rattle.vdr_media.specs.Answers.{KnownFormatted}
 use Rattle.vdr_media.specs.Formatted.{IsUnformatted}
 use Rattle.vdr_opening.specs.Media.{opening_of}
-use Rattle.vdr_outside.specs.declared.fault.PartRefused.TheVariants as parts
 use Rattle.vdr_pcap.specs.Capture.{IsRefused, Part}
 use Rattle.vdr_recorder.specs.Watched.{Watched}
 use Rattle.vdr_replay.specs.Answers.{Decides, IfOpened}

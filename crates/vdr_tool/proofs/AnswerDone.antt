@@ -1,5 +1,18 @@
 -- Where all is there that a command asks for, it is done.
-use Rattle.std.proofs.Common.{◌≡◌, ◌∙◌, ◌⊎◌, inl, inr, ℕ, List, Option, sym, ap, subst}
+use Rattle.std.proofs.Common.{◌≡◌, ◌∙◌, ◌⊎◌, ◌<◌, inl, inr, ℕ, zero, suc, Bool, List, Option, Result, Ok, Err, sym, ap, subst, arith}
+use Rattle.vdr_config.specs.Sizes.{window_of}
+use Rattle.vdr_outside.specs.Disk.{content}
+use Rattle.vdr_outside.specs.declared.fault.PartRefused.TheVariants as parts
+use Rattle.vdr_compare.specs.Comparisons.{comparison_verdict, windows_of}
+use Rattle.vdr_compare.specs.Media.{ComparesMedia}
+use Rattle.vdr_compare.specs.Standings.{standings}
+use Rattle.vdr_compare.specs.declared.comparing.CompareRefused.TheVariants as compares
+use Rattle.vdr_compare.specs.declared.difference.Verdict.{Verdict}
+use Rattle.vdr_compare.specs.declared.difference.Verdict.TheVariants.{Same}
+use Rattle.vdr_compare.specs.declared.media.MediaRefused.{MediaRefused}
+use Rattle.vdr_compare.specs.declared.media.MediaRefused.TheVariants.{Opening, Comparing}
+use Rattle.vdr_rescue.specs.Alones.{RefusesAlone, Rescue, Rescued}
+use Rattle.vdr_readout.specs.Compares.{ComparesBoth, status_of_comparison}
 use Rattle.vdr_feed.specs.Reader.{IfKnown}
 use Rattle.vdr_recorder.specs.Watched.{Watched}
 use Rattle.vdr_rescue.specs.Findings.{found_in}
@@ -19,7 +32,7 @@ use Rattle.vdr_tool.specs.Checks.{ChecksAll}
 use Rattle.vdr_tool.specs.Commands.{Asked}
 use Rattle.vdr_tool.specs.Commands.Asked.{Review, Check, Format, Replay, Read, Evidence, Page, Incidents, Info, Save, Release, Trial, Import, Packets, Verify, Rescue as Rescuing, RescueInfo, Compare}
 use Rattle.vdr_tool.specs.Formats.{FormatsAll}
-use Rattle.vdr_tool.specs.Permits.{Permits}
+use Rattle.vdr_tool.specs.Permits.{AreComparedSame, Permits}
 use Rattle.vdr_tool.specs.Replays.{ReplaysAll}
 use Rattle.vdr_tool.specs.Reviews.{ReviewsAll}
 use Rattle.vdr_tool.specs.Runs.{page}
@@ -33,6 +46,11 @@ done_by status (inr is) = subst IsDone (sym is) tt
 found_done : (status : Status) (m : ℕ) (f : Found) → f ≡ found.Whole → (status ≡ status_found m f) ⊎ (status ≡ NoMemory) → IsDone status
 found_done status m f whole (inl is) = done_by status (inl (is ∙ ap (status_found m) whole))
 found_done status m f whole (inr is) = done_by status (inr is)
+
+-- A medium that gives something is not refused.
+gives_or_refuses : (m offset : ℕ) (bytes : List ℕ) (x : Rescue) → Rescued m bytes x → RefusesAlone m bytes offset → ⊥
+gives_or_refuses m offset bytes x gives (inl (other, at)) = other gives.kind
+gives_or_refuses m offset bytes x gives (inr (kind, none, at)) = none x.config gives.config
 
 module _ {tells tells_images : Type 0} (old new : Outside tells tells_images) (status : Status) where
   -- What may be read out is.
@@ -64,6 +82,31 @@ module _ {tells tells_images : Type 0} (old new : Outside tells tells_images) (s
   rescue_done (Picture asked block) owed none p = found_done status (number_asked (asked_in (Picture asked block))) (found_in p.gives.findings) p.has.1 ((owed.complete none p.told).done p.gives p.has.2.0 p.has.2.1 p.rescued p.has.0 p.has.2.2 p.has.2.3)
   rescue_done (Pictures asked) owed none p = found_done status (number_asked (asked_in (Pictures asked))) (found_in p.gives.findings) p.has.1 ((owed.complete none p.told).done p.gives p.has.2.0 p.has.2.1 p.rescued p.has.0 p.has.2.2 p.has.2.3)
 
+  -- What their comparison comes to, where their texts are alike or not.
+  abbrev verdict_if : AreComparedSame old → Bool → Verdict
+  verdict_if p alike = comparison_verdict (record { alike = alike; capsule = p.capsule.findings; longterm = p.longterm.findings })
+      (windows_of (window_of p.capsule.config 0) (window_of p.longterm.config 1) p.capsule.given p.longterm.given) (standings p.capsule.given p.longterm.given)
+
+  -- Media of which nothing is said are compared.
+  compare_done : ComparesBoth old new status → NothingFailed old new → AreComparedSame old → IsDone status
+  compare_done owed none p = go owed.ended owed.status_is owed.shown
+    where
+      never : (m offset : ℕ) → m < 2 → RefusesAlone m (content old.media.disk.reads m) offset → ⊥
+      never zero offset lt refused = gives_or_refuses 0 offset (content old.media.disk.reads 0) p.capsule p.capsule_gives refused
+      never (suc zero) offset lt refused = gives_or_refuses 1 offset (content old.media.disk.reads 1) p.longterm p.longterm_gives refused
+      never (suc (suc m)) offset lt refused = omega (arith, lt)
+
+      go : (ended : Result Verdict MediaRefused) → status ≡ status_of_comparison ended → (tells → ComparesMedia old.media.disk.reads old.output.taken new.output.taken ended) → IsDone status
+      go (Ok verdict) is shown =
+          let s = shown p.told in
+          let same : verdict ≡ Same = (s.2 p.capsule p.longterm p.capsule_gives p.longterm_gives).1 ∙ ap (verdict_if p) (p.texts s.0 s.1) ∙ p.same in
+          done_by status (inl (is ∙ ap (λ (v : Verdict). status_of_comparison (Ok v)) same))
+      go (Err (Opening parts.NoMemory)) is shown = done_by status (inr is)
+      go (Err (Opening (parts.Damaged m offset))) is shown = let s = shown p.told in absurd (never m offset s.1 s.2)
+      go (Err (Opening parts.Fault)) is shown = absurd (none.media (owed.fault is))
+      go (Err (Comparing compares.Fault)) is shown = absurd (none.media (owed.fault is))
+      go (Err (Comparing compares.Output)) is shown = absurd (none.output (owed.output is))
+
 module _ {tells tells_images : Type 0} (old new : Outside tells tells_images) (hears : Type 0) (w : Watched) (status : Status) where
   pub permitted_done : (command : Asked) → (page command).owes old new hears w status → NothingFailed old new → Permits old command → IsDone status
   permitted_done (Review rate) owed none p = (subst (λ (l : Option (List ℕ)). IfKnown l (λ bytes. ReviewsAll bytes status)) p.known (owed.complete none)).0 p.has.0 p.has.1
@@ -83,4 +126,4 @@ module _ {tells tells_images : Type 0} (old new : Outside tells tells_images) (h
   permitted_done Verify owed none p = (subst (λ (l : Option (List ℕ)). IfKnown l (λ bytes. VerifiesAll bytes status)) p.known (owed.complete none)).0 p.has.0 p.has.1 p.has.2
   permitted_done (Rescuing reading) owed none p = rescue_done old new status reading owed none p
   permitted_done (RescueInfo medium) owed none p = found_done status (number_asked (whole_of medium)) (found_in p.gives.findings) p.has.1 (((owed.told p.told p.has.2 p.has.3).complete none p.told).done p.gives p.rescued p.has.0)
-  permitted_done Compare owed none p = absurd p
+  permitted_done Compare owed none p = compare_done old new status owed none p

@@ -4,16 +4,14 @@ use Rattle.std.specs.Prelude.{Result, ⊤}
 use Rattle.std.specs.Io.KnownBytes.{Appends, IsAtEnd}
 use Rattle.vdr_feed.specs.Feed.{longest_feed}
 use Rattle.vdr_feed.specs.Reader.{IfKnown}
-use Rattle.vdr_outside.specs.Causes.{Rose}
-use Rattle.vdr_outside.specs.Writes.{AppendsFront}
 use Rattle.vdr_pcap.specs.Capture.{IsCapture, IsRefused, Part}
 use Rattle.vdr_pcap.specs.Law.{NoCaptureIsRefused, OneRefusal}
 use Rattle.vdr_import.specs.Counts.{Counts, IsCounted, counted_text}
 use Rattle.vdr_import.specs.Imports.{HasCauses, IfCaptured, IfReached, IfRefusedBehind, Imports, imported}
 use Rattle.vdr_import.specs.declared.refused.ImportRefused.{ImportRefused}
 use Rattle.vdr_import.specs.declared.refused.ImportRefused.TheVariants as stops
-use Rattle.vdr_command.specs.Endings.{IsWorkDone, ending}
-use Rattle.vdr_command.specs.Outside.{InputFailed, InputSeen, MediaSeen, NothingFailed, OutputFailed, OutputSeen, Outside, Prints, PrintsFront}
+use Rattle.vdr_command.specs.Endings.{IsWorkDone}
+use Rattle.vdr_command.specs.Outside.{InputFailed, OutputFailed, Outside, Prints, PrintsFront}
 use Rattle.vdr_command.specs.StatusLine.{IfCapture}
 use Rattle.vdr_command.specs.declared.status.Status.{Status}
 use Rattle.vdr_command.specs.declared.status.Status.TheVariants.{Done, Words, InputFault, OutputFault, Capture}

@@ -15,7 +15,7 @@ use Rattle.vdr_core.specs.Histories.{Event, Opening}
 use Rattle.vdr_core.specs.Histories as histories
 use Rattle.vdr_durability.specs.Playback.{selected}
 use Rattle.vdr_directory.specs.Sequence.{Placed}
-use Rattle.vdr_opening.specs.Media.{members, Contents, HoldsContents, opening_of, reading_of}
+use Rattle.vdr_opening.specs.Media.{members_with, Contents, HoldsContents, opening_of, reading_of}
 use Rattle.vdr_opening.specs.Refusals.{IsRefused}
 use Rattle.vdr_opening.specs.declared.refused.OpenRefused.{OpenRefused}
 use Rattle.vdr_opening.specs.declared.refused.OpenRefused.TheVariants as openings
@@ -92,7 +92,7 @@ open_fault (openings.Damaged m offset) is = let none : ⊥ = cc in absurd none
 open_fault openings.Fault is = refl
 
 -- Media that a recorder left are not refused.
-pub open_own : {T : Type 0} (image : Image) (law : OneAnswer image) (x : Contents) → HoldsContents image x → EndsMeet members (reading_of x) → (refused : OpenRefused) (result : Result T OpenRefused) → result ≡ Err refused
+pub open_own : {T : Type 0} (image : Image) (law : OneAnswer image) (x : Contents) → HoldsContents image x → EndsMeet (members_with x.further) (reading_of x) → (refused : OpenRefused) (result : Result T OpenRefused) → result ≡ Err refused
     → (result ≡ Err openings.NotFormatted → IsUnformatted image) → ((m offset : ℕ) → result ≡ Err (openings.Damaged m offset) → IsFormatted image × IsRefused image m offset) → IsOwnStatus (status_of_opening refused)
 open_own image law x holds meet openings.NoMemory result is unformatted damaged = tt
 open_own image law x holds meet openings.NotFormatted result is unformatted damaged = absurd (law.formatted x holds (unformatted is))

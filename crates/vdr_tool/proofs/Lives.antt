@@ -1,10 +1,11 @@
 -- Media of this product stay so over each command.
 use Rattle.std.specs.Bool.{⊤}
-use Rattle.std.proofs.Common.{◌≡◌, ◌≤◌, ◌⊎◌, inl, inr, ⊎_elim, ℕ, Bool, List, [], Option, Result, Err, arith}
+use Rattle.std.proofs.Common.{◌≡◌, ◌≤◌, ◌⊎◌, inl, inr, ⊎_elim, ℕ, Bool, List, [], Option, Result, Err, sym, ap, subst, arith}
 use Rattle.vdr_core.specs.Histories.{Event}
 use Rattle.vdr_durability.specs.Keeping.{ShowsPrefix}
 use Rattle.vdr_outside.specs.Disk.{Disk, Image, Unchanged}
-use Rattle.vdr_opening.specs.Media.{Contents, opening_of}
+use Rattle.vdr_durability.specs.Readings.{EndsMeet}
+use Rattle.vdr_opening.specs.Media.{Contents, members_with, opening_of, reading_of}
 use Rattle.vdr_vault.specs.Openings.{LeavesAll}
 use Rattle.vdr_recorder.specs.Headline.{PlaysBack, ToldHeadline}
 use Rattle.vdr_recorder.specs.Watched.{Watched, nothing_told}
@@ -30,7 +31,7 @@ use Rattle.vdr_command.specs.declared.status.Status.{Status}
 use Rattle.vdr_command.specs.declared.status.Status.TheVariants.{Done, MediaFault}
 
 pub played_ours : (x : Contents) (events : List Event) (image : Image) → PlaysBack (opening_of x) events image → IsOurs image
-played_ours x events image p = inr (p.contents, p.legible, p.shown.media.ends, p.sound)
+played_ours x events image p = inr (p.contents, p.legible, subst (λ (ms : List ℕ). EndsMeet ms (reading_of p.contents)) (ap members_with (sym p.legible.further)) p.shown.media.ends, p.sound)
 
 module _ {tells tells_images : Type 0} where
   abbrev pub Left : Disk tells tells_images → Disk tells tells_images → Type 0

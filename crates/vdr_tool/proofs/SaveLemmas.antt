@@ -13,7 +13,7 @@ use Rattle.vdr_config.specs.Configuration.{Configuration}
 use Rattle.vdr_incident.specs.declared.refused.ReleaseRefused.{ReleaseRefused}
 use Rattle.vdr_incident.specs.declared.refused.ReleaseRefused.TheVariants as releases
 use Rattle.vdr_directory.specs.Sequence.{Placed}
-use Rattle.vdr_opening.specs.Media.{members, Contents, HoldsContents, opening_of, reading_of}
+use Rattle.vdr_opening.specs.Media.{members_with, Contents, HoldsContents, opening_of, reading_of}
 use Rattle.vdr_opening.specs.declared.refused.OpenRefused.{OpenRefused}
 use Rattle.vdr_recorder.specs.Recordings.{HasDone, HasRecorded, RecorderState}
 use Rattle.vdr_vault.specs.Openings.{IsToldBy, OpensAtEachMoment}
@@ -121,10 +121,10 @@ module _ {tells tells_images : Type 0} (old mid new : MediaSeen tells tells_imag
       unrefused (Some refused) is not = absurd (not refused is)
 
       module _ {T : Type 0} (result : Result T OpenRefused)
-          (moments : (x : Contents) → tells → HoldsContents old.disk.reads x → EndsMeet members (reading_of x) → WasRecorded x → OpensAtEachMoment old.disk mid.disk result (ShowsHistory (opening_of x) [])) where
+          (moments : (x : Contents) → tells → HoldsContents old.disk.reads x → EndsMeet (members_with x.further) (reading_of x) → WasRecorded x → OpensAtEachMoment old.disk mid.disk result (ShowsHistory (opening_of x) [])) where
         kept_with_save : (moment : Option ℕ) (MayBe : List Event → Type 0) (status : Status) → (IsWorkDone status → after.vault.failed ≡ false) → save_refusal label r.vault ≡ None → ((m offset : ℕ) → saved ≡ Err (saves.Damaged m offset) → ⊥) → moment_of after.vault.failed new.disk.clock ≡ moment
             → ((events : List Event) → IsOneEvent (SavesAs label) moment events → MayBe events)
-            → (x : Contents) → tells → HoldsContents old.disk.reads x → EndsMeet members (reading_of x) → WasRecorded x → KeepsContents x MayBe status old.disk new.disk
+            → (x : Contents) → tells → HoldsContents old.disk.reads x → EndsMeet (members_with x.further) (reading_of x) → WasRecorded x → KeepsContents x MayBe status old.disk new.disk
         kept_with_save moment MayBe status works_still none whole is may x t holds meet regular =
             let has = opened x t holds regular in
             let save = saves_so (opening_of x) [] has.0 t works none whole has.3 in
@@ -134,7 +134,7 @@ module _ {tells tells_images : Type 0} (old mid new : MediaSeen tells tells_imag
             (may (done.event ∷ []) (record { event = done.event; is = refl; does = (save.0, save.1, save.2, done.act_is); moment_is = done.moment_is ∙ is }))
 
         kept_refused : (refused : Refused) (status : Status) → (IsWorkDone status → ⊥) → save_refusal label r.vault ≡ Some refused
-            → (x : Contents) → tells → HoldsContents old.disk.reads x → EndsMeet members (reading_of x) → WasRecorded x → KeepsContents x AreLooks status old.disk new.disk
+            → (x : Contents) → tells → HoldsContents old.disk.reads x → EndsMeet (members_with x.further) (reading_of x) → WasRecorded x → KeepsContents x AreLooks status old.disk new.disk
         kept_refused refused status undone is x t holds meet regular =
             let has = opened x t holds regular in
             let done = looked (opening_of x) [] has.0 refused (inr is) has.3 in
@@ -234,10 +234,10 @@ module _ {tells tells_images : Type 0} (old mid new : MediaSeen tells tells_imag
     can saved is = opened_so (λ x. CanRelease id x) old.disk r.vault parts (λ x read. (saved, subst (λ (table : List (Option Incident)). live table id ≡ Some saved) read.table is))
 
     module _ {T : Type 0} (result : Result T OpenRefused)
-        (moments : (x : Contents) → tells → HoldsContents old.disk.reads x → EndsMeet members (reading_of x) → WasRecorded x → OpensAtEachMoment old.disk mid.disk result (ShowsHistory (opening_of x) [])) where
+        (moments : (x : Contents) → tells → HoldsContents old.disk.reads x → EndsMeet (members_with x.further) (reading_of x) → WasRecorded x → OpensAtEachMoment old.disk mid.disk result (ShowsHistory (opening_of x) [])) where
       kept_with_release : (moment : Option ℕ) (MayBe : List Event → Type 0) (status : Status) → (IsWorkDone status → after.vault.failed ≡ false) → (saved : Incident) → live r.vault.table id ≡ Some saved → moment_of after.vault.failed new.disk.clock ≡ moment
           → ((events : List Event) → IsOneEvent (ReleasesId id) moment events → MayBe events)
-          → (x : Contents) → tells → HoldsContents old.disk.reads x → EndsMeet members (reading_of x) → WasRecorded x → KeepsContents x MayBe status old.disk new.disk
+          → (x : Contents) → tells → HoldsContents old.disk.reads x → EndsMeet (members_with x.further) (reading_of x) → WasRecorded x → KeepsContents x MayBe status old.disk new.disk
       kept_with_release moment MayBe status works_still saved live_is is may x t holds meet regular =
           let has = opened x t holds regular in
           let done = releases_so (opening_of x) [] has.0 saved t works live_is has.3 in

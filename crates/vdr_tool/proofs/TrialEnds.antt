@@ -13,7 +13,7 @@ use Rattle.vdr_config.specs.Configuration.{Configuration}
 use Rattle.vdr_config.specs.Grammar.{configuration}
 use Rattle.vdr_config.specs.Sizes.{window_of}
 use Rattle.vdr_media.specs.Answers.{room}
-use Rattle.vdr_opening.specs.Media.{members, Contents, HoldsContents, opening_of, reading_of}
+use Rattle.vdr_opening.specs.Media.{members_with, Contents, HoldsContents, opening_of, reading_of}
 use Rattle.vdr_vault.specs.Calls.{SameElsewhere}
 use Rattle.vdr_vault.specs.Regularity.{AreSound}
 use Rattle.vdr_vault.specs.Vaults.{ShowsHistory}
@@ -37,6 +37,7 @@ use Rattle.vdr_tool.specs.declared.trying.Windows.{Windows}
 use Rattle.vdr_tool.proofs.FormatLemmas.{one_configuration, one_small}
 use Rattle.vdr_tool.proofs.TrialStatuses.{own_after, own_not_other, run_not_formatted, run_not_small, run_trial, stop_prints, stop_status, stop_undone}
 use Rattle.vdr_tool.proofs.TrialLemmas.{Lives, RanOn, RecordsItems, bench_reads, elsewhere, empty_now, empty_read, has_room, joined, lived_all, nothing_ran, ran_on, reopened, reopened_shows, was_unformatted}
+use Rattle.vdr_media.specs.Formatted.{members}
 
 window_short : (o : Option Record) (seconds : ℕ) (records : List Record) → length (window_before o seconds records) ≤ length records
 window_short None seconds records = omega arith
@@ -124,7 +125,7 @@ module _ {tells tells_images : Type 0} (seed count : ℕ) where
     Left s = tells → (end : RunEnd) × (items : List FeedItem) × ComesTo seed count end items s × LeavesRun (MediaFailed old new) old.disk new.disk items end s
 
     stopped_as : (s : Status) → IsRunStatus s → (s ≡ MediaFault → MediaFailed old new) → (IsOfOtherMedia s → tells → ⊥)
-        → (tells → SameElsewhere mid.disk.reads new.disk.reads) → Left s → TrialEnds seed count old new s
+        → (tells → SameElsewhere members mid.disk.reads new.disk.reads) → Left s → TrialEnds seed count old new s
     stopped_as s stop fault other same left = record {
       own = stop_status s (run_trial s stop);
       formatted = λ is. absurd (run_not_formatted s stop is);
@@ -135,7 +136,7 @@ module _ {tells tells_images : Type 0} (seed count : ℕ) where
       left = inr (inr (was_unformatted old mid ends, has_room old mid ends, left));
     }
 
-    pub done_as : (tells → SameElsewhere mid.disk.reads new.disk.reads) → Left Done → TrialEnds seed count old new Done
+    pub done_as : (tells → SameElsewhere members mid.disk.reads new.disk.reads) → Left Done → TrialEnds seed count old new Done
     done_as same left = record {
       own = tt;
       formatted = λ is. let none : ⊥ = cc in absurd none;
@@ -218,7 +219,7 @@ module _ {tells tells_images : Type 0} (seed count : ℕ) where
       not_other (Capture number offset) runs other = absurd runs
       not_other (NoEvidence named offset) runs other = absurd runs
 
-      pub run_stops_as : (s : Status) → IsRunStatus s → (s ≡ MediaFault → Rose (sum mid.faults) (sum new.faults)) → (tells → SameElsewhere mid.disk.reads new.disk.reads)
+      pub run_stops_as : (s : Status) → IsRunStatus s → (s ≡ MediaFault → Rose (sum mid.faults) (sum new.faults)) → (tells → SameElsewhere members mid.disk.reads new.disk.reads)
           → (tells → RunsItems seed count (Rose (sum mid.faults) (sum new.faults)) mid.disk new.disk (Err s)) → TrialEnds seed count old new s
       run_stops_as s stop fault same runs = stopped_as s stop (λ is. wider (fault is)) (λ other told. not_other s (runs told) other) same (λ told. left_by s told (runs told))
 
@@ -235,7 +236,7 @@ module _ {tells tells_images : Type 0} (seed count : ℕ) where
     holds_so told h = life_holds bench bench_text (closed_so told h).events late.disk.reads (life_so told h)
 
     abbrev pub Counts : Result Windows Status → Type 0
-    Counts result = (x : Contents) → tells → HoldsContents late.disk.reads x → EndsMeet members (reading_of x) → AreSound x → CountsWindows x late.disk new.disk result
+    Counts result = (x : Contents) → tells → HoldsContents late.disk.reads x → EndsMeet (members_with x.further) (reading_of x) → AreSound x → CountsWindows x late.disk new.disk result
 
     left_closed : (result : Result Windows Status) (s : Status) (told : tells) (h : ReplayHeadline fresh rose mid.disk late.disk ⊥ nothing_told (trial_items seed count) Closed) → IsAfterRun s
         → (c : CountsWindows (holds_so told h).contents late.disk new.disk result) → (IsWorkDone s → ShowsHistory (opening_of (holds_so told h).contents) [] new.disk.reads)
@@ -256,7 +257,7 @@ module _ {tells tells_images : Type 0} (seed count : ℕ) where
     counted_at result counts told h = let l = holds_so told h in counts l.contents told l.holds l.meet l.sound
 
     -- Opening them, or counting, stopped.
-    pub count_stops_as : (result : Result Windows Status) (s : Status) → result ≡ Err s → IsRunStatus s → (s ≡ MediaFault → MediaFailed old new) → (tells → SameElsewhere mid.disk.reads new.disk.reads)
+    pub count_stops_as : (result : Result Windows Status) (s : Status) → result ≡ Err s → IsRunStatus s → (s ≡ MediaFault → MediaFailed old new) → (tells → SameElsewhere members mid.disk.reads new.disk.reads)
         → (tells → ReplayHeadline fresh rose mid.disk late.disk ⊥ nothing_told (trial_items seed count) Closed) → Counts result → TrialEnds seed count old new s
     count_stops_as result s is stop fault same run counts = stopped_as old mid new ends s stop fault
         (λ other told. own_not_other s (own told) other) same
@@ -266,7 +267,7 @@ module _ {tells tells_images : Type 0} (seed count : ℕ) where
         own told = subst (λ (r : Result Windows Status). IfStatus r IsOwnStatus) is (counted_at result counts told (run told)).cause
 
     -- All was counted.
-    pub counts_as : (result : Result Windows Status) (n : Windows) → result ≡ Ok n → (tells → SameElsewhere mid.disk.reads new.disk.reads)
+    pub counts_as : (result : Result Windows Status) (n : Windows) → result ≡ Ok n → (tells → SameElsewhere members mid.disk.reads new.disk.reads)
         → (tells → ReplayHeadline fresh rose mid.disk late.disk ⊥ nothing_told (trial_items seed count) Closed) → Counts result → TrialEnds seed count old new Done
     counts_as result n is same run counts = done_as old mid new ends same
         (λ told. left_closed result Done told (run told) tt (counted_at result counts told (run told)) (λ done. (counted result n is counts told (run told)).0))
@@ -286,7 +287,7 @@ module _ {tells tells_images : Type 0} (seed count : ℕ) where
         let config : l.contents.config ≡ bench = life_config bench bench_text (closed_so told h).events late.disk.reads l.contents (life_so told h) l.holds in
         let low : length (trial_records seed count) < 2 ^ 64 = omega (arith, fits, records) in
         let on : (m : ℕ) → Contains members m → window (window_of l.contents.config m) ((opening_of l.contents).records m) ≡ window (window_of bench m) (trial_records seed count) =
-        (λ m there. ap (λ (d : Configuration). window (window_of d m) ((opening_of l.contents).records m)) config ∙ life_windows bench bench_text (closed_so told h).events late.disk.reads l.contents m (life_so told h) l.holds there
+        (λ m there. ap (λ (d : Configuration). window (window_of d m) ((opening_of l.contents).records m)) config ∙ life_windows bench bench_text (closed_so told h).events late.disk.reads l.contents m (life_so told h) l.holds (subst (λ (ms : List ℕ). Contains ms m) (ap members_with (sym l.holds.further)) there)
         ∙ ap (λ (rs : List Record). window (window_of bench m) rs) (closed_so told h).told.records) in
         record {
           sums = sums;

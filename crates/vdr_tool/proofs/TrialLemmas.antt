@@ -1,8 +1,7 @@
 -- What a trial leaves: formatting, a run, and opening again, joined.
 use Rattle.std.specs.Prelude.{All, ⊤}
-use Rattle.std.proofs.Common.{◌≡◌, ◌≢◌, ◌≤◌, ◌⊎◌, inl, inr, ⊎_elim, ℕ, false, List, [], ◌∷◌, ◌++◌, Some, Ok, Err, refl, sym, subst, ◌∙◌, append-nil, arith}
+use Rattle.std.proofs.Common.{◌≡◌, ◌≤◌, ◌⊎◌, inl, inr, ⊎_elim, ℕ, false, List, [], ◌∷◌, ◌++◌, Some, Ok, Err, Contains, refl, sym, ap, subst, ◌∙◌, append-nil, arith}
 use Rattle.std.specs.Str.{is_utf8, chars}
-use Rattle.std.proofs.lemmas.List.Elements.{All-head, All-tail}
 use Rattle.serde_json.proofs.OnLiterals.{serde_json_on_literals}
 use Rattle.vdr_recorder.specs.Watched.{nothing_told}
 use Rattle.vdr_terms.specs.Records.{FeedItem}
@@ -14,18 +13,17 @@ use Rattle.vdr_outside.specs.Causes.{Rose}
 use Rattle.vdr_outside.specs.Disk.{Disk, Image, SameBut, content}
 use Rattle.vdr_outside.specs.Moments.{AtEachMoment, Settled}
 use Rattle.vdr_outside.proofs.Moments.{in_calls, moments_join, moments_weaken, now_after, settled_image}
-use Rattle.vdr_config.specs.declared.media.TooSmall.{TooSmall}
 use Rattle.vdr_config.specs.Configuration.{Configuration}
 use Rattle.vdr_config.specs.Forms.{is_key}
 use Rattle.vdr_config.specs.Grammar.{agreement, channel_at, configuration, configuration_of, each_element, group_at, needed_key, only_keys, optional_key, selection_at, top_of}
 use Rattle.vdr_media.specs.Answers.{KnownUnformatted, TextTested, room}
-use Rattle.vdr_media.specs.Formatted.{IsEmptyHistory, IsEmptyHistoryOf, IsUnformatted, SameBeside}
+use Rattle.vdr_media.specs.Formatted.{IsEmptyHistory, IsEmptyHistoryOf, IsUnformatted, SameBeside, members}
 use Rattle.vdr_media.specs.Formatting.{FormatsAtEachMoment}
 use Rattle.vdr_media.specs.Medium.{IsEmptyMedium}
 use Rattle.vdr_media.specs.declared.refused.FormatRefused.{FormatRefused}
 use Rattle.vdr_media.specs.declared.refused.FormatRefused.TheVariants as refusal
 use Rattle.vdr_media.proofs.Two.{all_two}
-use Rattle.vdr_opening.specs.Media.{members, Contents, HoldsContents, opening_of}
+use Rattle.vdr_opening.specs.Media.{Contents, HoldsContents, members_with, opening_of}
 use Rattle.vdr_opening.proofs.Fronts.{empty_holds}
 use Rattle.vdr_vault.specs.Calls.{SameElsewhere}
 use Rattle.vdr_vault.specs.Openings.{LeavesAll}
@@ -41,7 +39,7 @@ use Rattle.vdr_vault.proofs.Lives.{run_front, run_in_order}
 use Rattle.vdr_command.specs.Endings.{IsWorkDone}
 use Rattle.vdr_command.specs.Outside.{MediaSeen}
 use Rattle.vdr_command.specs.declared.status.Status.{Status}
-use Rattle.vdr_command.specs.declared.status.Status.TheVariants.{Done, Config, NoMemory}
+use Rattle.vdr_command.specs.declared.status.Status.TheVariants.{Done}
 use Rattle.vdr_tool.specs.Formats.{FormatEnds, status_of}
 use Rattle.vdr_tool.specs.TrialParts.{IsBenchStatus}
 use Rattle.vdr_tool.specs.Trials.{LeavesRun, bench, bench_text, first_run, fresh}
@@ -76,8 +74,8 @@ Lives events image = Life bench bench_text events image
 empty_of : (image : Image) → IsEmptyHistoryOf (0 ∷ 1 ∷ []) bench_text image → IsEmpty image
 empty_of image (c, h) = subst (λ (d : Configuration). IsEmptyHistory members d bench_text image) (one_configuration (configuration bench_text) c bench (h.each 0 0 (omega arith)).holds.reads bench_reads) h
 
-pub same_joined : (a b c : Image) → SameElsewhere a b → SameBut 1 b c → SameElsewhere a c
-same_joined a b c first then k zero_not one_not = then k one_not ∙ first k zero_not one_not
+pub same_joined : (a b c : Image) → SameElsewhere members a b → SameBut 1 b c → SameElsewhere members a c
+same_joined a b c first then k apart = then k (apart 1 1 (omega arith)) ∙ first k apart
 
 -- What a run over these items records, where it ended so.
 pub record RecordsItems (items : List FeedItem) (end : RunEnd) (events : List Event) : Type 0 where
@@ -127,7 +125,7 @@ module _ {tells tells_images : Type 0} where
   pub lived : (rose : Type 0) (mid late : Disk tells tells_images) (items : List FeedItem) (end : RunEnd) → IsEmpty mid.reads → (h : ReplayHeadline fresh rose mid late ⊥ nothing_told items end)
       → (first rest : List Event) → h.events ≡ first ++ rest → (image : Image) → PlaysBack (opening_of fresh) first image → Lives first image
   lived rose mid late items end empty h first rest split image p =
-      ran [] mid.reads image fresh first (formatted mid.reads empty) (empty_holds mid.reads bench bench_text empty)
+      ran [] mid.reads image fresh first (formatted mid.reads empty) (empty_holds 0 mid.reads bench bench_text refl empty)
       (run_front fresh first rest h.events split (run_in_order fresh h.events h.history.follow h.order)) (played_so fresh first image p)
 
   pub ran_on : (rose : Type 0) (mid late : Disk tells tells_images) (items : List FeedItem) (end : RunEnd) → IsEmpty mid.reads → ReplayHeadline fresh rose mid late ⊥ nothing_told items end → RanOn rose mid late items end
@@ -167,7 +165,7 @@ module _ {tells tells_images : Type 0} where
       (holds : HoldsContents late.reads x) (sound : AreSound x) (moments : AtEachMoment late new (λ image. late.now image ⊎ ShowsHistory (opening_of x) [] image)) where
     pub shows_on : (image : Image) → ShowsHistory (opening_of x) [] image → Lives r.events image
     shows_on image shown = subst (λ (es : List Event). Lives es image) (append-nil r.events)
-        (ran r.events late.reads image x [] life holds (run_in_order x [] tt (order_quiet x sound [] refl)) shown)
+        (ran r.events late.reads image x [] life holds (run_in_order x [] tt (λ m there. order_quiet x sound [] refl m (subst (λ (ms : List ℕ). Contains ms m) (ap members_with holds.further) there))) shown)
 
     all_whole : IsWhole r.events
     all_whole = ⊎_elim (λ w. w) (λ (b : (Closed ≡ Broken) × rose). let clash = b.0 in let none : ⊥ = cc in absurd none) r.pending
@@ -238,12 +236,12 @@ module _ {tells tells_images : Type 0} where
 
   -- What is beside the two media
 
-  pub elsewhere : (old mid : MediaSeen tells tells_images) (new : Image) → FormatEnds false (Some bench_text) old mid Done → tells → SameElsewhere mid.disk.reads new
+  pub elsewhere : (old mid : MediaSeen tells tells_images) (new : Image) → FormatEnds false (Some bench_text) old mid Done → tells → SameElsewhere members mid.disk.reads new
       → SameBeside members (λ image. image ≡ old.disk.reads) new
   elsewhere old mid new ends told same =
       let f = ends.others told in
       record {
         image = f.image;
         was = f.was;
-        same = λ k others. same k (All-head (λ m. k ≢ m) 0 (1 ∷ []) others) (All-head (λ m. k ≢ m) 1 [] (All-tail (λ m. k ≢ m) 0 (1 ∷ []) others)) ∙ f.same k others;
+        same = λ k others. same k others ∙ f.same k others;
       }

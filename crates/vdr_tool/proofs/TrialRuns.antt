@@ -47,11 +47,11 @@ module _ {tells tells_images : Type 0} (seed count : ℕ) (rose : Type 0) (old n
       → (◌≡◌ {A = Result Replayed ReplayRefused} (Err stop) (Err stops.NotFormatted) → IsUnformatted old.reads)
       → ((m offset : ℕ) → ◌≡◌ {A = Result Replayed ReplayRefused} (Err stop) (Err (stops.Damaged m offset)) → IsFormatted old.reads × IsRefused old.reads m offset)
       → RunsItems seed count rose old new (Err (status_of_replay stop))
-  run_stopped law holds now stops.NoMemory answers header input unformatted damaged = answers (empty_meet bench bench_text)
+  run_stopped law holds now stops.NoMemory answers header input unformatted damaged = answers (empty_meet 0 bench bench_text)
   run_stopped law holds now stops.Input answers header input unformatted damaged = input refl
   run_stopped law holds now (stops.Refused number offset) answers header input unformatted damaged = header.2 (begins longest_feed (generated_feed seed count) (trial_items seed count) [] whole)
   run_stopped law holds now stops.NotFormatted answers header input unformatted damaged = law.formatted fresh holds (unformatted refl)
-  run_stopped law holds now (stops.Damaged m offset) answers header input unformatted damaged = law.either fresh m offset holds (empty_meet bench bench_text) (damaged m offset refl).1
+  run_stopped law holds now (stops.Damaged m offset) answers header input unformatted damaged = law.either fresh m offset holds (empty_meet 0 bench bench_text) (damaged m offset refl).1
   run_stopped law holds now stops.Place answers header input unformatted damaged =
       let high = answers.0 in let low : (opening_of fresh).next_place ≡ 0 = refl in omega (arith, high, low)
   run_stopped law holds now stops.Tick answers header input unformatted damaged =
@@ -59,7 +59,7 @@ module _ {tells tells_images : Type 0} (seed count : ℕ) (rose : Type 0) (old n
   run_stopped law holds now stops.Media answers header input unformatted damaged = ⊎_elim
       (λ nothing. inl nothing)
       (λ broken. inr (broken.feed, (broken.rest, broken.read), broken.left))
-      (answers (empty_meet bench bench_text))
+      (answers (empty_meet 0 bench bench_text))
 
   -- The run was closed over all items.
   pub run_whole : OneFeed → (now : Option (List ℕ)) (r : Replayed) → IsRecorded fresh (generated_feed seed count) now rose old new ⊥ nothing_told r → r.end ≡ ends.Whole

@@ -1,7 +1,12 @@
 -- When all is there that a command asks for: nothing stands in its way but a failure or want of memory.
-use Rattle.std.specs.Prelude.{◌≡◌, ◌⊎◌, ℕ, true, List, Some, Result, Ok, ⊤}
+use Rattle.std.specs.Prelude.{◌≡◌, ◌⊎◌, ℕ, Bool, true, List, Some, Result, Ok, ⊤}
 use Rattle.vdr_config.specs.Configuration.{Configuration}
+use Rattle.vdr_compare.specs.Comparisons.{comparison_verdict, windows_of}
+use Rattle.vdr_compare.specs.Openings.{AreAlike}
+use Rattle.vdr_compare.specs.Standings.{standings}
+use Rattle.vdr_compare.specs.declared.difference.Verdict.TheVariants.{Same}
 use Rattle.vdr_config.specs.Grammar.{configuration}
+use Rattle.vdr_config.specs.Sizes.{window_of}
 use Rattle.vdr_durability.specs.Readings.{EndsMeet}
 use Rattle.vdr_evidence.specs.Files.{Heading}
 use Rattle.vdr_export.specs.Answers.{file_of}
@@ -11,7 +16,7 @@ use Rattle.vdr_feed.specs.Feed.{IsFeed, longest_feed}
 use Rattle.vdr_info.specs.Infos.{TellerState}
 use Rattle.vdr_media.specs.Answers.{room}
 use Rattle.vdr_media.specs.Formatted.{IsUnformatted}
-use Rattle.vdr_opening.specs.Media.{members, Contents, HoldsContents, HoldsParts, opening_of, reading_of}
+use Rattle.vdr_opening.specs.Media.{members_with, Contents, HoldsContents, HoldsParts, opening_of, reading_of}
 use Rattle.vdr_outside.specs.Disk.{content}
 use Rattle.vdr_pcap.specs.Capture.{IsCapture, Part}
 use Rattle.vdr_recorder.specs.Refusals.{MayBegin}
@@ -57,7 +62,7 @@ module _ {tells tells_images : Type 0} (old : Outside tells tells_images) where
     pub told : tells
     pub contents : Contents
     pub holds : HoldsContents old.media.disk.reads contents
-    pub meet : EndsMeet members (reading_of contents)
+    pub meet : EndsMeet (members_with contents.further) (reading_of contents)
     pub has : P contents
 
   -- The one medium that is asked for gives so much, of which P holds.
@@ -71,7 +76,18 @@ module _ {tells tells_images : Type 0} (old : Outside tells tells_images) where
   abbrev pub IsPlayable : AskedPlay → Type 0
   IsPlayable asked = IsLegibleWith (λ x. CanBeRead x × CanPlay x asked.medium asked.channel)
 
-  -- By command. The page of `compare` says how it ends of any two media, and leaves open which of them is refused: of it nothing is said here.
+  -- Both media can be read alone, what configurations they hold have the same text, and of what they give nothing differs, lacks or is damaged.
+  pub record AreComparedSame : Type 0 where
+    pub told : tells
+    pub capsule : Rescue
+    pub longterm : Rescue
+    pub capsule_gives : Rescued 0 (content old.media.disk.reads 0) capsule
+    pub longterm_gives : Rescued 1 (content old.media.disk.reads 1) longterm
+    pub texts : (alike : Bool) → AreAlike (content old.media.disk.reads 0) (content old.media.disk.reads 1) alike → alike ≡ true
+    pub same : comparison_verdict (record { alike = true; capsule = capsule.findings; longterm = longterm.findings })
+        (windows_of (window_of capsule.config 0) (window_of longterm.config 1) capsule.given longterm.given) (standings capsule.given longterm.given) ≡ Same
+
+  -- By command.
   abbrev pub Permits : Asked → Type 0
   Permits (Review rate) = IsGiven (λ bytes. (items : List FeedItem) × IsFeed longest_feed bytes items)
   Permits Check = IsGiven (λ bytes. (c : Configuration) × (configuration bytes ≡ Ok c))
@@ -82,7 +98,7 @@ module _ {tells tells_images : Type 0} (old : Outside tells tells_images) where
   Permits (Evidence asked) = IsPlayable asked
   Permits (Page asked words) = IsPlayable asked
   Permits Incidents = IsLegibleWith (λ x. ⊤)
-  Permits Info = tells × (x : Contents) × HoldsParts old.media.disk.reads x × EndsMeet members (reading_of x)
+  Permits Info = tells × (x : Contents) × HoldsParts old.media.disk.reads x × EndsMeet (members_with x.further) (reading_of x)
   Permits (Save label) = IsLegibleWith (λ x. WasRecorded x × CanSave label x)
   Permits (Release id) = IsLegibleWith (CanRelease id)
   Permits (Trial seed count) = tells × IsUnformatted old.media.disk.reads × (room bench old.media.disk.sizes ≡ Ok tt)
@@ -93,4 +109,4 @@ module _ {tells tells_images : Type 0} (old : Outside tells tells_images) where
       (λ x. CanRescue x (asked_in reading) × (found_in x.findings ≡ Whole) × MakesFile reading x.config (λ file. file_of file (records_rescued x (asked_in reading))))
   Permits (RescueInfo medium) = IsRescuedWith (whole_of medium) (λ x. CanRescue x (whole_of medium) × (found_in x.findings ≡ Whole)
       × (first : TellerState) × IsToldAlone (number_asked (whole_of medium)) (content old.media.disk.reads (number_asked (whole_of medium))) first)
-  Permits Compare = ⊥
+  Permits Compare = AreComparedSame

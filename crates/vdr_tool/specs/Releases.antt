@@ -6,7 +6,7 @@ use Rattle.vdr_durability.specs.Readings.{EndsMeet}
 use Rattle.vdr_outside.specs.Disk.{Image}
 use Rattle.vdr_incident.specs.declared.refused.ReleaseRefused.{ReleaseRefused}
 use Rattle.vdr_incident.specs.declared.refused.ReleaseRefused.TheVariants as releases
-use Rattle.vdr_opening.specs.Media.{members, Contents, HoldsContents, reading_of}
+use Rattle.vdr_opening.specs.Media.{members_with, Contents, HoldsContents, reading_of}
 use Rattle.vdr_recorder.specs.Watched.{IsToldOnce, Watched}
 use Rattle.vdr_recorder.specs.Watched.PlainTurn.{Release as ARelease}
 use Rattle.vdr_command.specs.Endings.{IsDone, IsWorkDone}
@@ -43,9 +43,9 @@ ReleasesId id act = act ≡ Releasing id
 -- What is live is released, and what is not is refused by its own refusal, or there was no memory.
 pub record ReleasesAll (id : ℕ) (image : Image) (status : Status) : Type 0 where
   pub refused : RefusesAll image status
-  pub incident : (x : Contents) → HoldsContents image x → EndsMeet members (reading_of x) → live x.table id ≡ None
+  pub incident : (x : Contents) → HoldsContents image x → EndsMeet (members_with x.further) (reading_of x) → live x.table id ≡ None
       → (status ≡ NoIncident id) ⊎ (status ≡ NoMemory)
-  pub done : (x : Contents) → HoldsContents image x → EndsMeet members (reading_of x) → CanRelease id x → IsDone status
+  pub done : (x : Contents) → HoldsContents image x → EndsMeet (members_with x.further) (reading_of x) → CanRelease id x → IsDone status
 
 -- What `release` owes. It prints nothing. `w`: what an object was told meanwhile, where it `hears` anything.
 pub record Releases {tells tells_images : Type 0} (id : ℕ) (old new : Outside tells tells_images) (hears : Type 0) (w : Watched) (status : Status) : Type 0 where

@@ -7,8 +7,8 @@ use Rattle.vdr_durability.specs.Readings.{EndsMeet}
 use Rattle.vdr_outside.specs.Disk.{Image, SameBut}
 use Rattle.vdr_feed.specs.Feed.{IsFeed, feed_header, longest_feed}
 use Rattle.vdr_feed.specs.Reader.{IfKnown}
-use Rattle.vdr_media.specs.Formatted.{IsFormatted, IsUnformatted}
-use Rattle.vdr_opening.specs.Media.{members, Contents, HoldsContents, opening_of, reading_of}
+use Rattle.vdr_media.specs.Formatted.{IsFormatted, IsUnformatted, members}
+use Rattle.vdr_opening.specs.Media.{members_with, Contents, HoldsContents, opening_of, reading_of}
 use Rattle.vdr_opening.specs.Refusals.{IsRefused}
 use Rattle.vdr_vault.specs.Calls.{SameElsewhere}
 use Rattle.vdr_vault.specs.Openings.{LeavesAll}
@@ -50,7 +50,7 @@ pub record ReplayEnds {tells tells_images : Type 0} (input now : Option (List �
   pub recorded : (x : Contents) (bytes : List ℕ) → tells → HoldsContents old.disk.reads x → WasRecorded x → input ≡ Some bytes
       → Answers x bytes now (MediaFailed old new) old.disk new.disk hears w answer
   -- and whatever is known of the input, one history of some feed
-  pub left : (x : Contents) → tells → HoldsContents old.disk.reads x → EndsMeet members (reading_of x) → WasRecorded x → LeavesHistory x (MediaFailed old new) old.disk new.disk hears w
+  pub left : (x : Contents) → tells → HoldsContents old.disk.reads x → EndsMeet (members_with x.further) (reading_of x) → WasRecorded x → LeavesHistory x (MediaFailed old new) old.disk new.disk hears w
   pub blank : tells → IsUnformatted old.disk.reads → LeavesAll old.disk new.disk
   -- a header that is refused, or can't be read, leaves the media alone, and media that are refused are not written
   pub unopened : EndsAtHeader answer → AreLeftAlone old new
@@ -63,7 +63,7 @@ pub record ReplayEnds {tells tells_images : Type 0} (input now : Option (List �
   pub openable : tells → IfOpened answer (IsOpenableWith old.disk.reads (λ x. Decides x input now answer))
   pub unformatted : answer ≡ Err stops.NotFormatted → tells → IsUnformatted old.disk.reads
   pub damaged : (m offset : ℕ) → answer ≡ Err (stops.Damaged m offset) → tells → IsFormatted old.disk.reads × IsRefused old.disk.reads m offset
-  pub others : tells → SameElsewhere old.disk.reads new.disk.reads
+  pub others : tells → SameElsewhere members old.disk.reads new.disk.reads
   pub cause : HasReplayCause old.faults new.faults answer
 
 -- A feed is done, and what is none, or may not be recorded, is refused by its own refusal, or there was no memory.
@@ -71,13 +71,13 @@ pub record ReplaysAll (bytes : List ℕ) (image : Image) (status : Status) : Typ
   pub header : take 8 bytes ≢ feed_header → IsRefusal 1 0 status
   pub unformatted : take 8 bytes ≡ feed_header → IsUnformatted image → (status ≡ Unformatted) ⊎ (status ≡ NoMemory)
   pub damaged : take 8 bytes ≡ feed_header → IsFormatted image → (m offset : ℕ) → IsRefused image m offset → (status ≡ Damaged m offset) ⊎ (status ≡ NoMemory)
-  pub place : (x : Contents) → take 8 bytes ≡ feed_header → HoldsContents image x → EndsMeet members (reading_of x)
+  pub place : (x : Contents) → take 8 bytes ≡ feed_header → HoldsContents image x → EndsMeet (members_with x.further) (reading_of x)
       → 2 ^ 62 ≤ (opening_of x).next_place → (status ≡ Place) ⊎ (status ≡ NoMemory)
-  pub tick : (x : Contents) → take 8 bytes ≡ feed_header → HoldsContents image x → EndsMeet members (reading_of x)
+  pub tick : (x : Contents) → take 8 bytes ≡ feed_header → HoldsContents image x → EndsMeet (members_with x.further) (reading_of x)
       → (opening_of x).next_place < 2 ^ 62 → 2 ^ 62 ≤ base_after (opening_of x).last → (status ≡ Tick) ⊎ (status ≡ NoMemory)
-  pub refused : (x : Contents) (feed : List FeedItem) (number offset : ℕ) → HoldsContents image x → EndsMeet members (reading_of x) → MayBegin (opening_of x)
+  pub refused : (x : Contents) (feed : List FeedItem) (number offset : ℕ) → HoldsContents image x → EndsMeet (members_with x.further) (reading_of x) → MayBegin (opening_of x)
       → RefusesNext x.config.groups bytes number offset feed → AreConfigured x.config.groups feed → IsRefusal number offset status
-  pub done : (x : Contents) (feed : List FeedItem) → HoldsContents image x → EndsMeet members (reading_of x) → MayBegin (opening_of x)
+  pub done : (x : Contents) (feed : List FeedItem) → HoldsContents image x → EndsMeet (members_with x.further) (reading_of x) → MayBegin (opening_of x)
       → IsFeed longest_feed bytes feed → AreConfigured x.config.groups feed → IsDone status
 
 -- What `replay` owes. `w`: what an object was told meanwhile, where it `hears` anything.

@@ -6,7 +6,7 @@ use Rattle.vdr_core.specs.Histories.Act.{Save as Saving}
 use Rattle.vdr_durability.specs.Readings.{EndsMeet}
 use Rattle.vdr_outside.specs.Disk.{Image}
 use Rattle.vdr_terms.specs.Texts.{is_label}
-use Rattle.vdr_opening.specs.Media.{members, Contents, HoldsContents, reading_of}
+use Rattle.vdr_opening.specs.Media.{members_with, Contents, HoldsContents, reading_of}
 use Rattle.vdr_vault.specs.Saves.{refusal_from}
 use Rattle.vdr_vault.specs.declared.refused.SaveRefused.{SaveRefused as Refused}
 use Rattle.vdr_vault.specs.declared.refused.SaveRefused.TheVariants as saves
@@ -77,9 +77,9 @@ save_text table = id_line (option_map suc (position is_none table))
 -- What can be saved is, and what can't is refused by its own refusal, or there was no memory.
 pub record SavesAll (label : List ℕ) (image : Image) (status : Status) : Type 0 where
   pub refused : RefusesAll image status
-  pub cause : (x : Contents) (cause : SaveCause) → HoldsContents image x → EndsMeet members (reading_of x) → IsJudged label (Some cause) x
+  pub cause : (x : Contents) (cause : SaveCause) → HoldsContents image x → EndsMeet (members_with x.further) (reading_of x) → IsJudged label (Some cause) x
       → (status ≡ SaveRefused cause) ⊎ (status ≡ NoMemory)
-  pub done : (x : Contents) → HoldsContents image x → EndsMeet members (reading_of x) → WasRecorded x → CanSave label x → IsDone status
+  pub done : (x : Contents) → HoldsContents image x → EndsMeet (members_with x.further) (reading_of x) → WasRecorded x → CanSave label x → IsDone status
 
 -- What `save` owes. `w`: what an object was told meanwhile, where it `hears` anything.
 pub record Saves {tells tells_images : Type 0} (label : List ℕ) (old new : Outside tells tells_images) (hears : Type 0) (w : Watched) (status : Status) : Type 0 where

@@ -61,7 +61,7 @@ bench = record {
 
 -- What media hold that were just formatted with it, and the run that is the first on them.
 abbrev pub fresh : Contents
-fresh = nothing_on bench bench_text
+fresh = nothing_on 0 bench bench_text
 
 abbrev pub first_run : RunStart
 first_run = start_of_opening (opening_of fresh)

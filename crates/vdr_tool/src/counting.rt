@@ -11,7 +11,7 @@ ghost use Rattle.vdr_outside.specs.Disk.{SameBut};
 ghost use Rattle.vdr_entry.specs.Queries.{asked_medium};
 ghost use Rattle.vdr_entry.specs.declared.query.Medium.TheVariants.{Capsule as TheCapsule, LongTerm as TheLongTerm};
 ghost use Rattle.vdr_directory.specs.Sequence.{Placed};
-ghost use Rattle.vdr_opening.specs.Media.{Contents, HoldsContents, members, reading_of};
+ghost use Rattle.vdr_opening.specs.Media.{members_with, Contents, HoldsContents, reading_of};
 ghost use Rattle.vdr_vault.specs.Regularity.{AreSound};
 ghost use Rattle.vdr_vault.specs.Vaults.{AreRings, IsReadable};
 ghost use Rattle.vdr_recorder.specs.Looks.{HasLooked};
@@ -126,7 +126,7 @@ pub(crate) fn count_windows<M: Media>(alloc: Global, media: &mut M) -> Result<Wi
     requires two { 2 ≤ length (M.disk media.old).sizes }
     requires three { length (M.disk media.old).sizes ≤ 3 }
     ensures stops { IfStatus result IsRunStatus }
-    ensures counts { (x : Contents) → M.tells → HoldsContents (M.disk media.old).reads x → EndsMeet members (reading_of x) → AreSound x
+    ensures counts { (x : Contents) → M.tells → HoldsContents (M.disk media.old).reads x → EndsMeet (members_with x.further) (reading_of x) → AreSound x
         → CountsWindows x (M.disk media.old) (M.disk media.new) result }
     ensures fault { outcome result ≡ MediaFault → Rose (sum (M.faults media.old)) (sum (M.faults media.new)) }
     ensures later { NoneFalls (M.faults media.old) (M.faults media.new) }

@@ -12,6 +12,7 @@ ghost use Rattle.vdr_tool.specs.Summaries.{count_text};
 ghost use Rattle.vdr_tool.specs.TrialParts.{IfStatus, IsBenchStatus, IsRunStatus, IsPartStatus, IsTally, RunsItems, outcome};
 ghost use Rattle.vdr_tool.specs.Trials.{TrialEnds, Trials, bench_text, count_line, fresh, sums_line, trial_lines};
 ghost use Rattle.vdr_command.specs.declared.status.Status.TheVariants.{MediaFault, OutputFault, Words};
+ghost use Rattle.vdr_media.specs.Formatted.{members};
 
 use crate::counting::count_windows;
 use arrayvec::ArrayVec;
@@ -121,7 +122,7 @@ fn record_items<M: Media>(
     ensures fits { IfOk result (λ ran. ran.records < 2 ^ 64) }
     ensures fault { outcome result ≡ MediaFault → Rose (sum (M.faults media.old)) (sum (M.faults media.new)) }
     ensures later { NoneFalls (M.faults media.old) (M.faults media.new) }
-    ensures others { M.tells → SameElsewhere (M.disk media.old).reads (M.disk media.new).reads }
+    ensures others { M.tells → SameElsewhere members (M.disk media.old).reads (M.disk media.new).reads }
     ensures sizes { (M.disk media.new).sizes ≡ (M.disk media.old).sizes }
 {
     law_of_openings();

@@ -12,12 +12,12 @@ returns c = λ image.
     let refusals = c.law_of_refusals.ensures in
     record {
       config = λ x y h k. (parts.config image x y h k).0;
-      known = λ x y h k. (parts.known image x y h k).0;
+      known = λ x y h k. parts.known image x y h k 0 (omega arith);
       table = parts.table image;
       parts = parts.legible image;
       last = parts.last image;
-      place = λ x holds. ap next_after (same_last (reading_of (parts_of x)) (reading_of x) (ends_known image x holds 0 0 (omega arith)));
-      placed = λ x y h k. (contents.placed image x y h k).0;
+      place = λ x holds. ap next_after (same_last (reading_of (parts_of x)) (reading_of x) x.further (ends_known image x holds 0 0 (omega arith)));
+      placed = λ x y h k. contents.placed image x y h k 0 (omega arith);
       formatted = contents.formatted image;
       opens = refusals.parts image;
       either = refusals.either image;

@@ -1,5 +1,5 @@
 use Rattle.std.specs.Bool.{⊤}
-use Rattle.std.proofs.Common.{◌≡◌, ◌∙◌, List, [], refl, ap}
+use Rattle.std.proofs.Common.{◌≡◌, ◌∙◌, List, [], refl, ap, arith}
 use Rattle.std.proofs.lemmas.Result.{err_from_is_err_and}
 use Rattle.vdr_core.specs.Histories.{Event}
 use Rattle.vdr_command.specs.Outside.{MediaSeen}
@@ -27,6 +27,6 @@ returns-clause-ends g c =
     let new : MediaSeen g.M.Media.tells g.M.Media.tells_images = record { disk = g.M.Media.disk c.record_at_desks.new.media; faults = g.M.Media.faults c.record_at_desks.new.media; bytes_read = g.M.Media.bytes_read c.record_at_desks.new.media } in
     recorded_ends g.P.Port g.L.Link c.args.turns c.args.lanes.now c.record_at_desks.new.lanes c.args.desks.now c.record_at_desks.new.desks old mid new c.in_ok-recorder.recorder c.record_at_desks.result c.requires.lanes.sixteen (c.record_at_desks.auto.lanes ∙ c.requires.lanes.sixteen)
     begun.opened.parts begun.opened.contents begun.opened.opened begun.recorded g.W.Watch.hears (g.W.Watch.seen c.open_watched.new.watch) (g.W.Watch.seen c.record_at_desks.new.watch)
-    (λ opening heard. heard_opening opening _ (g.M.Media.disk c.args.media.now) (g.M.Media.disk c.open_watched.new.media) c.open_watched.result c.in_ok-recorder.recorder c.in_ok-recorder.was (c.open_watched.ensures.heard heard)) begun.moments (λ t k first second. c.open_watched.ensures.writes.others t k second) c.open_watched.ensures.writes.cause.later
+    (λ opening heard. heard_opening opening _ (g.M.Media.disk c.args.media.now) (g.M.Media.disk c.open_watched.new.media) c.open_watched.result c.in_ok-recorder.recorder c.in_ok-recorder.was (c.open_watched.ensures.heard heard)) begun.moments (λ t k apart. c.open_watched.ensures.writes.others t k (apart 1 0 (omega arith))) c.open_watched.ensures.writes.cause.later
     session.session session.desks session.failures session.ends.groups session.ends.decides (λ is. let still = session.ends.unbegun is in (ap g.M.Media.disk still.0, still.1))
     c.open_watched.ensures.writes.others (λ x t holds. c.open_watched.ensures.missing x t holds) session.ends.others session.ends.cause

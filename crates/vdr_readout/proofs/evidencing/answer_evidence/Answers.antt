@@ -1,8 +1,7 @@
-use Rattle.std.proofs.Common.{◌≡◌, ◌∙◌, inr, Ok, Err, refl, ap, sym, subst}
+use Rattle.std.proofs.Common.{◌≡◌, inr, Ok, Err, refl}
 use Rattle.std.proofs.lemmas.Result.{err_from_is_err_and}
 use Rattle.vdr_outside.proofs.Moments.{unchanged_join}
 use Rattle.vdr_entry.specs.Queries.{asked}
-use Rattle.vdr_opening.specs.declared.refused.OpenRefused.{OpenRefused}
 use Rattle.vdr_visit.specs.declared.visit_refused.VisitRefused.TheVariants.{Damaged, Fault}
 use Rattle.vdr_command.specs.Opened.{AreLooks}
 use Rattle.vdr_command.specs.Outside.{Outside}

@@ -1,4 +1,4 @@
-use Rattle.std.proofs.Common.{arith}
+use Rattle.std.proofs.Common.{refl, arith}
 use Rattle.std.specs.Prelude.{sum}
 use Rattle.std.proofs.lemmas.Result.{err_from_is_err_and}
 use Rattle.vdr_outside.proofs.Counts.{sum_not_less}
@@ -29,7 +29,7 @@ returns-in_err-ran-clause-ends g c =
     (run_stops_as c.args.seed c.args.count old mid new ends
     (rose_wider _ _ _ _ (sum_not_less old.faults mid.faults first.same_media first.none_falls) (omega arith))
     c.in_err-ran.field-0.0 run.stops run.fault run.others
-    (λ told. run.run told (empty_holds mid.disk.reads bench bench_text (empty_read old mid ends told))))
+    (λ told. run.run told (empty_holds 0 mid.disk.reads bench bench_text refl (empty_read old mid ends told))))
 
 pub returns-in_err-windows-clause-ends : goal.returns-in_err-windows-clause-ends
 returns-in_err-windows-clause-ends g c =
@@ -48,7 +48,7 @@ returns-in_err-windows-clause-ends g c =
     (count_stops_as c.args.seed c.args.count old mid late new ends _ c.count_windows.result c.in_err-windows.field-0.0 c.in_err-windows.was c.in_err-windows.ensures.stops
     (λ is. rose_wider (sum old.faults) (sum late.faults) (sum new.faults) (sum new.faults) (omega (arith, low, middle)) (omega arith) (c.in_err-windows.ensures.fault is))
     (λ told. same_joined mid.disk.reads late.disk.reads new.disk.reads (run.others told) (c.count_windows.ensures.others told))
-    (λ told. (run.run told (empty_holds mid.disk.reads bench bench_text (empty_read old mid ends told))).2)
+    (λ told. (run.run told (empty_holds 0 mid.disk.reads bench bench_text refl (empty_read old mid ends told))).2)
     c.count_windows.ensures.counts)
 
 pub returns-clause-ends : goal.returns-clause-ends
@@ -61,7 +61,7 @@ returns-clause-ends g c =
     let run = c.in_ok-ran.ensures in
     counts_as c.args.seed c.args.count old mid late new ends _ c.count_windows.result c.in_ok-windows.windows c.in_ok-windows.was
     (λ told. same_joined mid.disk.reads late.disk.reads new.disk.reads (run.others told) (c.count_windows.ensures.others told))
-    (λ told. (run.run told (empty_holds mid.disk.reads bench bench_text (empty_read old mid ends told))).2)
+    (λ told. (run.run told (empty_holds 0 mid.disk.reads bench bench_text refl (empty_read old mid ends told))).2)
     c.count_windows.ensures.counts
 
 pub returns-clause-tally : goal.returns-clause-tally
@@ -73,7 +73,7 @@ returns-clause-tally g c = λ told.
     let ends = c.in_ok-format_bench.ensures.ends in
     let run = c.in_ok-ran.ensures in
     tally_is c.args.seed c.args.count old mid late new ends _ c.count_windows.result c.in_ok-windows.windows c.in_ok-ran.ran run.fits c.in_ok-windows.was told
-    (run.run told (empty_holds mid.disk.reads bench bench_text (empty_read old mid ends told))) c.count_windows.ensures.counts
+    (run.run told (empty_holds 0 mid.disk.reads bench bench_text refl (empty_read old mid ends told))) c.count_windows.ensures.counts
 
 pub returns-in_err-format_bench-clause-stops : goal.returns-in_err-format_bench-clause-stops
 returns-in_err-format_bench-clause-stops g c =

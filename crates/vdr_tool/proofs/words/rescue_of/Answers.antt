@@ -1,4 +1,4 @@
-use Rattle.std.proofs.Common.{◌≡◌, ◌∙◌, ◌∷◌, inl, inr, ℕ, List, codes, map, Some, sym, ap, refl}
+use Rattle.std.proofs.Common.{◌∙◌, ◌∷◌, inl, inr, codes, map, Some, sym, ap, refl}
 use Rattle.std.specs.Prelude.{string_bytes}
 use Rattle.vdr_tool.specs.Commands.{Asked}
 use Rattle.vdr_tool.proofs.WordLemmas.{none_read, none_whole, not_info, one_whole, rescue_words, some_rescue}
