@@ -1,6 +1,6 @@
-//! What no command of the program reaches: a queue that hands an item back, a full queue that is drained, and a ring of
-//! batches of one record each. It prints a line for each, with what came of it, or `None` where memory is refused or a call
-//! failed on the way.
+//! What no command of the program reaches: a queue that hands an item back, a full queue that is drained, a ring of
+//! batches of one record each, and a medium that is made from another. It prints a line for each, with what came of it,
+//! or `None` where memory is refused or a call failed on the way.
 #![tactic(auto)]
 
 mod offers;
@@ -23,5 +23,7 @@ fn main(rt: HostRuntime) -> io::Result<()> {
     let held = rings::held_after_each(rt.alloc());
     println!(rt; "the last minute is held after each of 600 batches: {held:?}")?;
     let left = rings::left_by_each_stop(rt.alloc());
-    println!(rt; "a stop leaves the last minute without the batch or with it: {left:?}")
+    println!(rt; "a stop leaves the last minute without the batch or with it: {left:?}")?;
+    let remade = rings::left_by_stops(rt.alloc());
+    println!(rt; "a stop leaves a medium that is made from another closed or whole: {remade:?}")
 }

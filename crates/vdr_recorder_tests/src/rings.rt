@@ -1,7 +1,9 @@
 // A ring of which slots are written over: batches of one record each, which no command of the program appends.
 mod capsule;
+mod remakes;
 
 use capsule::{Capsule, contents};
+pub(crate) use remakes::left_by_stops;
 use std::alloc::Global;
 use vdr_memory::{MemoryMedia, RamMedia, Torn};
 use vdr_outside::Media;

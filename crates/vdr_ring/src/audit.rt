@@ -8,9 +8,9 @@ ghost use Rattle.vdr_ring.specs.Damage.{IsDamagedAt, IsIntact};
 use vdr_index::{audit, survey};
 use vdr_segment::{HEADER_SIZE, OPEN_GATE, read_header};
 
-// Where a slot with these bytes is damaged: its header, or the first batch that is not legal or does not agree with the
-// summary in the header. None where the slot is closed or intact.
-pub(crate) fn first_damage(bytes: &[u8]) -> Option<usize>
+/// Where a slot with these bytes is damaged, as an offset in bytes from its beginning: its header, or the first batch that is not legal
+/// or does not agree with the summary in the header. None where the slot is closed or intact. The bytes are those of the whole slot.
+pub fn first_damage(bytes: &[u8]) -> Option<usize>
     requires { 65 ≤ length bytes.now }
     ensures some { IfSome result (λ at. IsDamagedAt bytes.now at) }
     ensures inside { IfSome result (λ at. at < length bytes.now) }

@@ -30,6 +30,7 @@ mod refused;
 mod ring;
 mod visit;
 
+pub use audit::first_damage;
 pub use cursor::Cursor;
 pub use cursor_law::law_of_budget;
 pub use law::{law_of_alike, law_of_places, law_of_stages};

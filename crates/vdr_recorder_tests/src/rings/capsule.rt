@@ -11,7 +11,7 @@ use vdr_ring::{Pins, Ring};
 use vdr_terms::{Verdict, recordable};
 
 // The bench configuration: a window of 60 seconds, for which the capsule has 11 slots.
-const BENCH: &[u8] =
+pub(super) const BENCH: &[u8] =
     b"{\"profile\":\"bench\",\"capsule_seconds\":60,\"long_seconds\":600,\"incident_seconds\":30,\"incident_slots\":2,\"segment\":8192,\"batch\":2048,\"queue\":16,\"groups\":[{\"name\":\"NAVD\",\"datagrams\":2,\"bytes\":200}],\"channels\":[]}";
 
 pub(super) fn contents(alloc: Global) -> Result<Vec<Vec<u8>>, AllocError>
@@ -39,7 +39,7 @@ impl<M: Media> Model for Capsule<M> {
 }
 
 // The bench configuration. None where memory is refused.
-fn bench(alloc: Global) -> Option<Config> {
+pub(super) fn bench(alloc: Global) -> Option<Config> {
     read_config(alloc, BENCH).ok()
 }
 

@@ -1,0 +1,10 @@
+pub mod Copies
+pub mod Moved
+pub mod Fronts
+pub mod Behind
+pub mod Causes
+pub mod Shutting
+pub mod Staging
+pub mod Remade
+pub mod Windows
+pub mod Refusals
